@@ -1,0 +1,5 @@
+mod kind;
+mod text;
+
+pub use kind::CostKind;
+pub use text::Text;

@@ -1,0 +1,5 @@
+mod floor;
+pub mod step;
+
+pub use floor::Floor;
+pub use step::Step;
