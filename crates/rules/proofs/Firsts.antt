@@ -28,6 +28,11 @@ module _ {X : Type 0} (P : X → Type 0) where
   any-at (y ∷ ys) zero x e p = let same : x ≡ y = cc in inl (rw same at p)
   any-at (y ∷ ys) (suc n) x e p = inr (any-at ys n x e p)
 
+  pub any-number : (xs : List X) → Any P xs → (n : ℕ) × (x : X) × (getElem? xs n ≡ some x) × P x
+  any-number [] h = elim h [ ]
+  any-number (y ∷ ys) (inl p) = (0, y, refl, p)
+  any-number (y ∷ ys) (inr h) = let (n, x, at, p) = any-number ys h in (suc n, x, at, p)
+
   first-any : (xs : List X) (x : X) → First P xs x → Any P xs
   first-any [] x h = elim h [ ]
   first-any (y ∷ ys) x (inl h) = inl (h .1)
@@ -70,8 +75,9 @@ module _ {X : Type 0} (P : X → Type 0) where
   first-cond b xs x = cond-both b xs [] (λ l. First P l x → (b ≡ true) × First P xs x) (λ e h. (e, h)) (λ e h. elim h [ ])
 
 -- the first of the numbers from a on
-pub first-counting : (P : ℕ → Type 0) (a n x : ℕ) → First P (counting a n) x → (k : ℕ) → a ≤ k → k < a + n → P k → x ≤ k
-first-counting P a zero x h k l u p = elim h [ ]
-first-counting P a (suc n) x (inl h) k l u p = omega (arith, h .0)
-first-counting P a (suc n) x (inr h) k l u p =
-    elim (cases-eq a k) [ inl e ↦ absurd (h .0 (rw e p)) | inr later ↦ first-counting P (a + 1) n x (h .1) k (omega arith) (omega arith) p ]
+pub first-counting : (P : ℕ → Type 0) (a n x : ℕ) → First P (counting a n) x → (x < a + n) × ((k : ℕ) → a ≤ k → k < a + n → P k → x ≤ k)
+first-counting P a zero x h = elim h [ ]
+first-counting P a (suc n) x (inl h) = (omega (arith, h .0), λ k l u p. omega (arith, h .0))
+first-counting P a (suc n) x (inr h) =
+    let (inside, low) = first-counting P (a + 1) n x (h .1) in
+    (omega arith, λ k l u p. elim (cases-eq a k) [ inl e ↦ absurd (h .0 (rw e p)) | inr later ↦ low k (omega arith) (omega arith) p ])
