@@ -11,8 +11,8 @@ use Rattle.std.proofs.shelf.Elements.{all-weaker}
 use Rattle.rules.specs.Fronts.{Front}
 use Rattle.rules.specs.Instances.{Instance, Move, Sound, cart-count, moves-of}
 use Rattle.rules.specs.Walks.{Constraint, Beginning, place-on, Obeying, extended-by}
-use Rattle.rules.specs.Offers.{Label, may-go, kept}
-use Rattle.rules.specs.Serving.{label-of}
+use Rattle.rules.specs.Offers.{Label, may-be, may-go, kept}
+use Rattle.rules.specs.Serving.{label-of, Reached}
 use Rattle.rules.proofs.Fronts.{Covered, is-front}
 use Rattle.rules.proofs.Walks.{place-of-latest, place-of-earlier}
 use Rattle.rules.proofs.Satisfying.{satisfied-places, satisfied-moves, satisfied-from}
@@ -35,7 +35,10 @@ module _ {C : Type 0} (i : Instance C) (cart : ℕ) (bans : List Constraint) whe
       let b : Beginning i cart t p = record { past = past; cost = l .cost; moved = run-prefix i cart bans run; long = omega (arith, run-long i cart bans run) } in
       (b, satisfied-from i cart bans (place-on i b) t t (run-places i cart bans run) (run-moves i cart bans run), λ j. record { cost = l .cost; item = e j })
 
-  -- its last move is allowed, and so is all before it
+  -- where it ends is allowed, and its last move, and all before
+  pub end-allowed : {t p : ℕ} (b : Beginning i cart t p) → Obeying i bans b → may-be i cart bans p t ≡ true
+  end-allowed {t} {p} b o = rw (place-of-latest p (b .past) t) at (satisfied-places i cart bans (place-on i b) t t o t (omega arith))
+
   pub last-allowed : {t p : ℕ} (b : Beginning i cart (suc t) p) → Obeying i bans b → may-go i cart bans (getD (b .past) 0 0) p t ≡ true
   last-allowed {t} {p} b o =
       let none : t - t ≡ 0 = omega arith in
@@ -51,10 +54,11 @@ module _ {C : Type 0} (i : Instance C) (cart : ℕ) (bans : List Constraint) whe
       (λ s h. rw (place-of-earlier (m .to) us t s h) at (satisfied-places i cart bans on (suc t) (suc t) o s (omega arith)))
       (λ s h. rw (place-of-earlier (m .to) us t s (omega arith), place-of-earlier (m .to) us t (suc s) h) at (satisfied-moves i cart bans on (suc t) (suc t) o s (omega arith)))
 
-  pub kept-front : Sound i → cart < cart-count i → (t p : ℕ) →
-      Front (i .kind) (λ c. (b : Beginning i cart t p) × Obeying i bans b × (b .cost ≡ c)) (map (λ l. l .cost) (kept i cart bans t p))
+  pub run-reached : {t p : ℕ} (l : Label C) → IsRun i cart bans t p l → Reached i cart bans t p (l .cost)
+  run-reached l r = let (b, o, e) = run-begun l r in (b, o, ap (λ x. x .cost) (sym e))
+
+  pub kept-front : Sound i → cart < cart-count i → (t p : ℕ) → Front (i .kind) (Reached i cart bans t p) (map (λ l. l .cost) (kept i cart bans t p))
   kept-front sound known t p =
-      let Reached : C → Type 0 = λ c. (b : Beginning i cart t p) × Obeying i bans b × (b .cost ≡ c) in
-      is-front (i .kind) (sound .laws) Reached (kept i cart bans t p) (labels-ranked i cart bans (sound .laws) t p)
-      (all-weaker (IsRun i cart bans t p) (λ l. Reached (l .cost)) (λ l r. let (b, o, e) = run-begun l r in (b, o, ap (λ x. x .cost) (sym e))) (kept i cart bans t p) (labels-run i cart bans t p))
+      is-front (i .kind) (sound .laws) (Reached i cart bans t p) (kept i cart bans t p) (labels-ranked i cart bans (sound .laws) t p)
+      (all-weaker (IsRun i cart bans t p) (λ l. Reached i cart bans t p (l .cost)) run-reached (kept i cart bans t p) (labels-run i cart bans t p))
       (λ c reached. subst (Covered (i .kind) (kept i cart bans t p)) (reached .2) (labels-cover i cart bans sound known (beginning-run (reached .0) (reached .1))))

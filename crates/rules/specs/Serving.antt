@@ -27,6 +27,10 @@ module _ {C : Type 0} (i : Instance C) (cart : ℕ) (bans : List Constraint) whe
   abbrev pub label-of : {t p : ℕ} → Beginning i cart t p → Label C
   label-of {t} {p} b = record { cost = b .cost; item = p ∷ b .past }
 
+  -- an obeying beginning of t moves that ends at p has the cost
+  abbrev pub Reached : ℕ → ℕ → C → Type 0
+  Reached t p c = (b : Beginning i cart t p) × Obeying i bans b × (b .cost ≡ c)
+
   -- b extends the beginning of a kept label by one move, as e says
   pub record EndsBy {t p : ℕ} (b : Beginning i cart (suc t) p) (e : Ending) : Type 0 where
     pub former : Beginning i cart t (e .place)
@@ -44,7 +48,7 @@ module _ {C : Type 0} (i : Instance C) (cart : ℕ) (bans : List Constraint) whe
     pub ending : Ending
     pub ends : EndsBy beginning ending
     pub first : (b : Beginning i cart (suc t) p) (e : Ending) → Obeying i bans b → b .cost ≡ l .cost → EndsBy b e → NotLater ending e
-    pub first-of-all : {u : ℕ} (b : Beginning i cart t u) (n : ℕ) (m : Move) (at : getElem? (moves-of i u) n ≡ some m) →
+    pub first-of-all : (u : ℕ) (b : Beginning i cart t u) (n : ℕ) (m : Move) (at : getElem? (moves-of i u) n ≡ some m) →
         Obeying i bans (extended-by i b n m at) → m .to ≡ p → extended-by i b n m at .cost ≡ l .cost →
         (ending .place < u) ⊎ ((ending .place ≡ u) × (ending .move ≤ n))
 
@@ -59,7 +63,7 @@ module _ {C : Type 0} (i : Instance C) (cart : ℕ) (bans : List Constraint) whe
   -- kept are exactly the undominated costs of the obeying beginnings of t moves that end at p: at tick 0 the start's alone, then each with its
   -- serving beginning; and each offer has its serving walk
   pub record Choices : Type 0 where
-    pub kept-exact : (t p : ℕ) → Front (i .kind) (λ c. (b : Beginning i cart t p) × Obeying i bans b × (b .cost ≡ c)) (map (λ l. l .cost) (kept i cart bans t p))
+    pub kept-exact : (t p : ℕ) → Front (i .kind) (Reached t p) (map (λ l. l .cost) (kept i cart bans t p))
     pub kept-at-start : (p : ℕ) → All (λ l. (p ≡ start-of i cart) × (l ≡ record { cost = i .kind .zero; item = start-of i cart ∷ [] })) (kept i cart bans 0 p)
     pub kept-serving : (t p : ℕ) → All (Serving t p) (kept i cart bans (suc t) p)
     pub offers-serving : All ServingWalk (offers i cart bans)
