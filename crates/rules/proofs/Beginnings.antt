@@ -1,6 +1,6 @@
 -- Beginnings that obey the constraints are the runs, and the labels kept have exactly their undominated costs.
 -- Assumes nothing.
-use mathlib.Core.Path.{_≡_, refl, sym, ap, subst}
+use mathlib.Core.Path.{_≡_, sym, ap, subst}
 use mathlib.Core.Bool.{true}
 use mathlib.Core.List.{List, _∷_, map}
 use mathlib.Core.Option.{some}
@@ -26,7 +26,7 @@ module _ {C : Type 0} (i : Instance C) (cart : ℕ) (bans : List Constraint) whe
 
   -- the label is an obeying beginning's
   abbrev pub Begun : ℕ → ℕ → Label C → Type 0
-  Begun t p l = (b : Beginning i cart t p) × Obeying i bans b × (l ≡ label-of i cart bans b)
+  Begun t p l = (b : Beginning i cart t p) × Obeying i bans b × (l ≡ label-of i b)
 
   pub run-begun : {t p : ℕ} (l : Label C) → IsRun i cart bans t p l → Begun t p l
   run-begun {t} {p} l r =

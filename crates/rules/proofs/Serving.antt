@@ -10,20 +10,20 @@ use native.Mathlib.Omega.{arith}
 use lib.Dec.{eqb}
 use lib.ListN.{getD, getElem?}
 use Rattle.std.specs.Iters.{counting}
-use Rattle.std.specs.shelf.Lists.{All, Has}
+use Rattle.std.specs.shelf.Lists.{All}
 use Rattle.std.proofs.shelf.Tests.{cases-eq, and-parts, and-from, eqb-true, eq-eqb}
 use Rattle.rules.specs.Kinds.{Kind, AtMost, Undominated}
 use Rattle.rules.specs.Fronts.{Front}
-use Rattle.rules.specs.Instances.{Instance, Move, Sound, places, cart-count, moves-of, start-of, goal-of, price}
+use Rattle.rules.specs.Instances.{Instance, Move, Sound, places, cart-count, moves-of, goal-of, price}
 use Rattle.rules.specs.Walks.{Constraint, Walk, Permitted, Beginning, Obeying, extended-by}
-use Rattle.rules.specs.Offers.{Label, joined-lists, may-go, extended, by-moves, kept, may-stand, stood, arrivals, offers, offer-costs, Serves}
+use Rattle.rules.specs.Offers.{Label, joined-lists, may-go, extended, by-moves, kept, may-stand, stood, arrivals, offers, offer-costs, Offered, Serves}
 use Rattle.rules.specs.Serving.{Ending, NotLater, label-of, Reached, EndsBy, Serving, ServingWalk, ChoicesRight}
 use Rattle.rules.proofs.Members.{Any, Among, any-map, any-has, among-map, all-at, all-both}
 use Rattle.rules.proofs.Firsts.{First, any-at, any-number, first-at, first-joined, first-map, first-cond, first-counting}
 use Rattle.rules.proofs.Fronts.{SameCost, undominated-same, front-first}
 use Rattle.rules.proofs.Runs.{run-inside}
 use Rattle.rules.proofs.Labels.{brought, reaching, onward-by, any-by-moves, IsRun, moved-to, labels-run, labels-cover, labels-start, labels-first}
-use Rattle.rules.proofs.Offers.{Offered, permitted-run, permitted-stands, walk-of, walk-permitted, stood-from, arriving, label-serves, offers-front}
+use Rattle.rules.proofs.Offers.{permitted-run, permitted-stands, walk-of, walk-permitted, stood-from, arriving, label-serves, offers-front}
 use Rattle.rules.proofs.Beginnings.{run-begun, run-reached, beginning-run, end-allowed, last-allowed, obeying-before, kept-front}
 
 by-place-and-move : (e f : Ending) → NotLater e f → (e .place < f .place) ⊎ ((e .place ≡ f .place) × (e .move ≤ f .move))
@@ -87,8 +87,7 @@ module _ {C : Type 0} (i : Instance C) (cart : ℕ) (bans : List Constraint) whe
       let (test, in-extended) = first-cond (SameCost l) (eqb (m .to) p && may-go i cart bans u p t) (extended i cart bans m (kept i cart bans t u)) l first in
       let parts = and-parts (eqb (m .to) p) (may-go i cart bans u p t) test in
       let (former, first-former, made) = first-map (SameCost l) step (kept i cart bans t u) l in-extended in
-      let (x, at-x, _, low) = first-at (λ f. SameCost l (step f)) (kept i cart bans t u) former first-former in
-      (
+      let (x, at-x, _, low) = first-at (λ f. SameCost l (step f)) (kept i cart bans t u) former first-former in (
         x,
         record { former = former; taken = m; kept-there = at-x; move-there = at; reaches = eqb-true (m .to) p (parts .0); allowed = parts .1; made = made },
         λ l′ x′ c same.
@@ -103,8 +102,7 @@ module _ {C : Type 0} (i : Instance C) (cart : ℕ) (bans : List Constraint) whe
       let P = SameCost l in
       let (m, first-m, in-m) = first-joined P (by-move t p u) (moves-of i u) l (subst (λ ls. First P ls l) (brought-by-move t p u (moves-of i u)) first) in
       let (n, at, _, low) = first-at (λ z. Any P (by-move t p u z)) (moves-of i u) m first-m in
-      let (x, candidate, low-label) = first-by-move t p u n m l at in-m in
-      (
+      let (x, candidate, low-label) = first-by-move t p u n m l at in-m in (
         n,
         x,
         candidate,
@@ -122,8 +120,7 @@ module _ {C : Type 0} (i : Instance C) (cart : ℕ) (bans : List Constraint) whe
       let P = SameCost l in
       let (u, first-u, in-u) = first-joined P (brought i cart bans t p) (counting 0 (places i)) l first in
       let (n, x, candidate, low-move) = first-from t p u l in-u in
-      let (_, low) = first-counting (λ z. Any P (brought i cart bans t p z)) 0 (places i) u first-u in
-      (
+      let (_, low) = first-counting (λ z. Any P (brought i cart bans t p z)) 0 (places i) u first-u in (
         ending u n x,
         candidate,
         λ l′ e′ c same.
@@ -136,11 +133,11 @@ module _ {C : Type 0} (i : Instance C) (cart : ℕ) (bans : List Constraint) whe
       )
 
   -- an obeying beginning that extends a kept one is a candidate, and a candidate's label extends a kept beginning
-  ends-candidate : (t p : ℕ) (b : Beginning i cart (suc t) p) (e : Ending) → Obeying i bans b → EndsBy i cart bans b e → Candidate t p (label-of i cart bans b) e
+  ends-candidate : (t p : ℕ) (b : Beginning i cart (suc t) p) (e : Ending) → Obeying i bans b → EndsBy i cart bans b e → Candidate t p (label-of i b) e
   ends-candidate t p b e o ends =
       let left : getD (b .past) 0 0 ≡ e .place = ap (λ l. getD (l .item) 1 0) (ends .extends) in
       record {
-        former = label-of i cart bans (ends .former);
+        former = label-of i (ends .former);
         taken = ends .taken;
         kept-there = ends .kept-there;
         move-there = ends .move-there;
@@ -149,7 +146,7 @@ module _ {C : Type 0} (i : Instance C) (cart : ℕ) (bans : List Constraint) whe
         made = sym (ends .extends);
       }
 
-  candidate-ends : (t p : ℕ) (l : Label C) (b : Beginning i cart (suc t) p) (e : Ending) → l ≡ label-of i cart bans b → Candidate t p l e → EndsBy i cart bans b e
+  candidate-ends : (t p : ℕ) (l : Label C) (b : Beginning i cart (suc t) p) (e : Ending) → l ≡ label-of i b → Candidate t p l e → EndsBy i cart bans b e
   candidate-ends t p l b e shown c =
       let (former, _, is-former) = run-begun i cart bans (c .former) (label-run t (e .place) (e .label) (c .former) (c .kept-there)) in
       record {
@@ -172,8 +169,7 @@ module _ {C : Type 0} (i : Instance C) (cart : ℕ) (bans : List Constraint) whe
         let l = onward-by i cart bans m former in
         let go = last-allowed i cart bans more o in
         let run = moved-to i cart bans n m former (label-run t u x former at-x) at refl go (end-allowed i cart bans more o) in
-        let under : AtMost (i .kind) (l .cost) c = rw (← same) (sound .laws .join-mono (former .cost) (b .cost) (price i (m .line)) less) in
-        (
+        let under : AtMost (i .kind) (l .cost) c = rw (← same) (sound .laws .join-mono (former .cost) (b .cost) (price i (m .line)) less) in (
           x,
           l,
           record { former = former; taken = m; kept-there = at-x; move-there = at; reaches = refl; allowed = go; made = refl },
@@ -191,7 +187,7 @@ module _ {C : Type 0} (i : Instance C) (cart : ℕ) (bans : List Constraint) whe
           shown = shown;
           ending = e;
           ends = candidate-ends t p l b e shown candidate;
-          first = λ b′ e′ o′ same ends. earliest (label-of i cart bans b′) e′ (ends-candidate t p b′ e′ o′ ends) same;
+          first = λ b′ e′ o′ same ends. earliest (label-of i b′) e′ (ends-candidate t p b′ e′ o′ ends) same;
           first-of-all = λ u b′ n m at o′ to same.
               let least-there = subst (λ q. Undominated (i .kind) (Reached i cart bans (suc t) q) (l .cost)) (sym to) least in
               let (x, l′, c, as-cheap) = like-candidate b′ n m at (l .cost) o′ least-there same in

@@ -22,11 +22,12 @@ pub record Ending : Type 0 where
 abbrev pub NotLater : Ending → Ending → Type 0
 NotLater e f = (e .place < f .place) ⊎ ((e .place ≡ f .place) × ((e .move < f .move) ⊎ ((e .move ≡ f .move) × (e .label ≤ f .label))))
 
-module _ {C : Type 0} (i : Instance C) (cart : ℕ) (bans : List Constraint) where
+module _ {C : Type 0} (i : Instance C) where
   -- the label of a beginning: its cost and its places, the latest first
-  abbrev pub label-of : {t p : ℕ} → Beginning i cart t p → Label C
-  label-of {t} {p} b = record { cost = b .cost; item = p ∷ b .past }
+  abbrev pub label-of : {cart t p : ℕ} → Beginning i cart t p → Label C
+  label-of {cart} {t} {p} b = record { cost = b .cost; item = p ∷ b .past }
 
+module _ {C : Type 0} (i : Instance C) (cart : ℕ) (bans : List Constraint) where
   -- an obeying beginning of t moves that ends at p has the cost
   abbrev pub Reached : ℕ → ℕ → C → Type 0
   Reached t p c = (b : Beginning i cart t p) × Obeying i bans b × (b .cost ≡ c)
@@ -35,16 +36,16 @@ module _ {C : Type 0} (i : Instance C) (cart : ℕ) (bans : List Constraint) whe
   pub record EndsBy {t p : ℕ} (b : Beginning i cart (suc t) p) (e : Ending) : Type 0 where
     pub former : Beginning i cart t (e .place)
     pub taken : Move
-    pub kept-there : getElem? (kept i cart bans t (e .place)) (e .label) ≡ some (label-of former)
+    pub kept-there : getElem? (kept i cart bans t (e .place)) (e .label) ≡ some (label-of i former)
     pub move-there : getElem? (moves-of i (e .place)) (e .move) ≡ some taken
-    pub extends : label-of b ≡ label-of (extended-by i former (e .move) taken move-there)
+    pub extends : label-of i b ≡ label-of i (extended-by i former (e .move) taken move-there)
 
   -- the label kept at p after a move leaving at tick t is that of an obeying beginning that extends a kept one. Of all of that cost that do, it ends
   -- first; and none of that cost at all leaves a lower place, or the same place by a lower move
   pub record Serving (t p : ℕ) (l : Label C) : Type 0 where
     pub beginning : Beginning i cart (suc t) p
     pub obeying : Obeying i bans beginning
-    pub shown : l ≡ label-of beginning
+    pub shown : l ≡ label-of i beginning
     pub ending : Ending
     pub ends : EndsBy beginning ending
     pub first : (b : Beginning i cart (suc t) p) (e : Ending) → Obeying i bans b → b .cost ≡ l .cost → EndsBy b e → NotLater ending e
