@@ -17,13 +17,14 @@ use Rattle.rules.specs.Fronts.{Front}
 use Rattle.rules.specs.Instances.{Instance, Move, Sound, places, cart-count, moves-of, goal-of, price}
 use Rattle.rules.specs.Walks.{Constraint, Walk, Permitted, Beginning, Obeying, extended-by}
 use Rattle.rules.specs.Offers.{Label, joined-lists, may-go, extended, by-moves, kept, may-stand, stood, arrivals, offers, offer-costs, Offered, Serves}
-use Rattle.rules.specs.Serving.{Ending, NotLater, label-of, Reached, EndsBy, Serving, ServingWalk, ChoicesRight}
+use Rattle.rules.specs.Serving.{Ending, NotLater, label-of, Reached, EndsBy, Serving, ServingWalk, Choices, ChoicesRight}
 use Rattle.rules.proofs.Members.{Any, Among, any-map, any-has, among-map, all-at, all-both}
 use Rattle.rules.proofs.Firsts.{First, any-at, any-number, first-at, first-joined, first-map, first-cond, first-counting}
 use Rattle.rules.proofs.Fronts.{SameCost, undominated-same, front-first}
 use Rattle.rules.proofs.Runs.{run-inside}
 use Rattle.rules.proofs.Labels.{brought, reaching, onward-by, any-by-moves, IsRun, moved-to, labels-run, labels-cover, labels-start, labels-first}
 use Rattle.rules.proofs.Offers.{permitted-run, permitted-stands, walk-of, walk-permitted, stood-from, arriving, label-serves, offers-front}
+use Rattle.rules.proofs.SameChoices.{same-labels, same-offers}
 use Rattle.rules.proofs.Beginnings.{run-begun, run-reached, beginning-run, end-allowed, last-allowed, obeying-before, kept-front}
 
 by-place-and-move : (e f : Ending) → NotLater e f → (e .place < f .place) ⊎ ((e .place ≡ f .place) × (e .move ≤ f .move))
@@ -133,7 +134,7 @@ module _ {C : Type 0} (i : Instance C) (cart : ℕ) (bans : List Constraint) whe
       )
 
   -- an obeying beginning that extends a kept one is a candidate, and a candidate's label extends a kept beginning
-  ends-candidate : (t p : ℕ) (b : Beginning i cart (suc t) p) (e : Ending) → Obeying i bans b → EndsBy i cart bans b e → Candidate t p (label-of i b) e
+  ends-candidate : (t p : ℕ) (b : Beginning i cart (suc t) p) (e : Ending) → Obeying i bans b → EndsBy i cart bans (kept i cart bans) b e → Candidate t p (label-of i b) e
   ends-candidate t p b e o ends =
       let left : getD (b .past) 0 0 ≡ e .place = ap (λ l. getD (l .item) 1 0) (ends .extends) in
       record {
@@ -146,7 +147,7 @@ module _ {C : Type 0} (i : Instance C) (cart : ℕ) (bans : List Constraint) whe
         made = sym (ends .extends);
       }
 
-  candidate-ends : (t p : ℕ) (l : Label C) (b : Beginning i cart (suc t) p) (e : Ending) → l ≡ label-of i b → Candidate t p l e → EndsBy i cart bans b e
+  candidate-ends : (t p : ℕ) (l : Label C) (b : Beginning i cart (suc t) p) (e : Ending) → l ≡ label-of i b → Candidate t p l e → EndsBy i cart bans (kept i cart bans) b e
   candidate-ends t p l b e shown c =
       let (former, _, is-former) = run-begun i cart bans (c .former) (label-run t (e .place) (e .label) (c .former) (c .kept-there)) in
       record {
@@ -177,7 +178,7 @@ module _ {C : Type 0} (i : Instance C) (cart : ℕ) (bans : List Constraint) whe
         )
 
     label-serving : (t p : ℕ) (l : Label C) → IsRun i cart bans (suc t) p l → First (SameCost l) (reaching i cart bans t p) l →
-        Undominated (i .kind) (Reached i cart bans (suc t) p) (l .cost) → Serving i cart bans t p l
+        Undominated (i .kind) (Reached i cart bans (suc t) p) (l .cost) → Serving i cart bans (kept i cart bans) t p l
     label-serving t p l run first least =
         let (b, o, shown) = run-begun i cart bans l run in
         let (e, candidate, earliest) = first-candidate sound known t p l first in
@@ -194,13 +195,13 @@ module _ {C : Type 0} (i : Instance C) (cart : ℕ) (bans : List Constraint) whe
               by-place-and-move e (ending u n x) (earliest l′ (ending u n x) (subst (λ q. Candidate t q l′ (ending u n x)) to c) as-cheap);
         }
 
-    pub labels-serving : (t p : ℕ) → All (Serving i cart bans t p) (kept i cart bans (suc t) p)
+    labels-serving : (t p : ℕ) → All (Serving i cart bans (kept i cart bans) t p) (kept i cart bans (suc t) p)
     labels-serving t p =
         let labels = kept i cart bans (suc t) p in
         let Run : Label C → Type 0 = IsRun i cart bans (suc t) p in
         let Foremost : Label C → Type 0 = λ l. First (SameCost l) (reaching i cart bans t p) l in
         let Listed : Label C → Type 0 = λ l. Among (map (λ k. k .cost) labels) (l .cost) in
-        all-both Run (λ l. Foremost l × Listed l) (Serving i cart bans t p)
+        all-both Run (λ l. Foremost l × Listed l) (Serving i cart bans (kept i cart bans) t p)
         (λ l run h. label-serving t p l run (h .0) (front-undominated (i .kind) (kept-front i cart bans sound known (suc t) p) (l .cost) (h .1)))
         labels (labels-run i cart bans (suc t) p)
         (all-both Foremost Listed (λ l. Foremost l × Listed l) (λ l f h. (f, h)) labels (labels-first i cart bans (sound .laws) t p) (among-map (λ k. k .cost) labels))
@@ -218,7 +219,7 @@ module _ {C : Type 0} (i : Instance C) (cart : ℕ) (bans : List Constraint) whe
         let as-cheap = undominated-same (i .kind) (sound .laws) (Offered i cart bans) (o .cost) (l .cost) least offered (subst (AtMost (i .kind) (l .cost)) same less) in
         rw stands (any-map (SameCost o) later labels (any-at (λ k. SameCost o (later k)) labels x l at as-cheap))
 
-    offer-serving : (o : Label C) → First (SameCost o) (arrivals i cart bans) o → Undominated (i .kind) (Offered i cart bans) (o .cost) → ServingWalk i cart bans o
+    offer-serving : (o : Label C) → First (SameCost o) (arrivals i cart bans) o → Undominated (i .kind) (Offered i cart bans) (o .cost) → ServingWalk i cart bans (kept i cart bans) o
     offer-serving o first least =
         let P = SameCost o in
         let goal = goal-of i cart in
@@ -237,19 +238,28 @@ module _ {C : Type 0} (i : Instance C) (cart : ℕ) (bans : List Constraint) whe
           earliest = λ w p same. low (w .arrival) (omega arith) (omega (arith, w .in-time)) (like-arrival o least w p same);
         }
 
-    pub offers-serving : All (ServingWalk i cart bans) (offers i cart bans)
+    offers-serving : All (ServingWalk i cart bans (kept i cart bans)) (offers i cart bans)
     offers-serving =
         let Foremost : Label C → Type 0 = λ o. First (SameCost o) (arrivals i cart bans) o in
         let Listed : Label C → Type 0 = λ o. Among (offer-costs i cart bans) (o .cost) in
-        all-both Foremost Listed (ServingWalk i cart bans)
+        all-both Foremost Listed (ServingWalk i cart bans (kept i cart bans))
         (λ o first listed. offer-serving o first (front-undominated (i .kind) (offers-front i cart bans sound known) (o .cost) listed))
         (offers i cart bans) (front-first (i .kind) (sound .laws) (arrivals i cart bans)) (among-map (λ k. k .cost) (offers i cart bans))
 
+    pub choices : Choices i cart bans (kept i cart bans) (offers i cart bans)
+    choices =
+        record {
+          kept-exact = kept-front i cart bans sound known;
+          kept-at-start = labels-start i cart bans;
+          kept-serving = labels-serving;
+          offers-exact = offers-front i cart bans sound known;
+          offers-serving = offers-serving;
+        }
+
 pub choices-right : {C : Type 0} → ChoicesRight C
 choices-right i sound cart known bans =
-    record {
-      kept-exact = kept-front i cart bans sound known;
-      kept-at-start = labels-start i cart bans;
-      kept-serving = labels-serving i cart bans sound known;
-      offers-serving = offers-serving i cart bans sound known;
-    }
+    let right = choices i cart bans sound known in
+    (right, λ labels on-offer other. (
+      same-labels i (sound .laws) cart bans labels (kept i cart bans) on-offer (offers i cart bans) other right,
+      same-offers i (sound .laws) cart bans labels (kept i cart bans) on-offer (offers i cart bans) other right,
+    ))
