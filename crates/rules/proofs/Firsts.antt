@@ -22,6 +22,9 @@ First P (y ∷ ys) x = ((y ≡ x) × P y) ⊎ ((P y → ⊥) × First P ys x)
 abbrev NoLower : {X : Type 0} → (X → Type 0) → List X → ℕ → Type 0
 NoLower {X} P xs n = (k : ℕ) (y : X) → getElem? xs k ≡ some y → P y → n ≤ k
 
+pub same-at : {X : Type 0} (xs : List X) (n : ℕ) (x y : X) → getElem? xs n ≡ some x → getElem? xs n ≡ some y → x ≡ y
+same-at xs n x y at-x at-y = cc
+
 module _ {X : Type 0} (P : X → Type 0) where
   pub any-at : (xs : List X) (n : ℕ) (x : X) → getElem? xs n ≡ some x → P x → Any P xs
   any-at [] n x e p = absurd (none-is-not x e)

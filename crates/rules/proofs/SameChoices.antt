@@ -4,21 +4,19 @@ use mathlib.Core.Path.{_≡_, sym, ap, subst, _∙_}
 use mathlib.Core.Bool.{cond}
 use mathlib.Core.List.{List, [], _∷_, map, reverse}
 use mathlib.Core.Logic.{inl, inr}
-use mathlib.Core.Option.{some}
-use Prim.Native.Nat.{ℕ, zero, suc, _-_, _≤_, _<_}
+use Prim.Native.Nat.{ℕ, zero, suc, _-_, _≤_}
 use native.Mathlib.Omega.{arith}
 use lib.Dec.{leb}
 use lib.ListN.{length, getD, getElem?}
 use Rattle.std.proofs.shelf.Lists.{ext-getD, reverse-reverse, length-reverse}
 use Rattle.rules.specs.Kinds.{Laws}
-use Rattle.rules.specs.Instances.{Instance, Move, moves-of, start-of, goal-of, price}
+use Rattle.rules.specs.Instances.{Instance, moves-of, start-of, goal-of}
 use Rattle.rules.specs.Walks.{Constraint, Walk, place-at, Beginning}
 use Rattle.rules.specs.Offers.{Label, Offered, Serves}
 use Rattle.rules.specs.Serving.{Ending, NotLater, label-of, Reached, EndsBy, Serving, ServingWalk, Choices}
+use Rattle.rules.proofs.Firsts.{same-at}
+use Rattle.rules.proofs.Labels.{onward-by}
 use Rattle.rules.proofs.SameFronts.{front-same, entries-same, one-of-a-cost}
-
-some-same : {X : Type 0} {a b : X} → some a ≡ some b → a ≡ b
-some-same e = cc
 
 -- endings neither of which is later are the same
 same-ending : (e f : Ending) → NotLater e f → NotLater f e → e ≡ f
@@ -31,10 +29,6 @@ same-ending e f (inr (a, inr (p, o))) (inr (b, inl q)) = absurd (omega arith)
 same-ending e f (inr (a, inr (p, o))) (inr (b, inr (q, r))) = let same : e .label ≡ f .label = omega arith in λ j. record { place = a j; move = p j; label = same j }
 
 module _ {C : Type 0} (i : Instance C) (laws : Laws (i .kind)) (cart : ℕ) (bans : List Constraint) where
-  -- a label, one move on
-  abbrev moved-on : Move → Label C → Label C
-  moved-on m l = record { cost = i .kind .join (l .cost) (price i (m .line)); item = m .to ∷ l .item }
-
   module _ (labels others : ℕ → ℕ → List (Label C)) where
     ends-too : {t p : ℕ} → ((u : ℕ) → labels t u ≡ others t u) → (b : Beginning i cart (suc t) p) (e : Ending) → EndsBy i cart bans labels b e → EndsBy i cart bans others b e
     ends-too same b e ends =
@@ -49,10 +43,10 @@ module _ {C : Type 0} (i : Instance C) (laws : Laws (i .kind)) (cart : ℕ) (ban
   -- beginnings that end alike are the same
   ends-same : {t p : ℕ} (labels : ℕ → ℕ → List (Label C)) (b d : Beginning i cart (suc t) p) (e : Ending) → EndsBy i cart bans labels b e → EndsBy i cart bans labels d e →
       label-of i b ≡ label-of i d
-  ends-same labels b d e h k =
-      let former : label-of i (h .former) ≡ label-of i (k .former) = some-same (sym (h .kept-there) ∙ k .kept-there) in
-      let taken : h .taken ≡ k .taken = some-same (sym (h .move-there) ∙ k .move-there) in
-      h .extends ∙ (λ j. moved-on (taken j) (former j)) ∙ sym (k .extends)
+  ends-same {t} labels b d e h k =
+      let former : label-of i (h .former) ≡ label-of i (k .former) = same-at (labels t (e .place)) (e .label) (label-of i (h .former)) (label-of i (k .former)) (h .kept-there) (k .kept-there) in
+      let taken : h .taken ≡ k .taken = same-at (moves-of i (e .place)) (e .move) (h .taken) (k .taken) (h .move-there) (k .move-there) in
+      h .extends ∙ (λ j. onward-by i cart bans (taken j) (former j)) ∙ sym (k .extends)
 
   serving-same : (labels others : ℕ → ℕ → List (Label C)) (t p : ℕ) → ((u : ℕ) → labels t u ≡ others t u) → (l m : Label C) →
       Serving i cart bans labels t p l → Serving i cart bans others t p m → l .cost ≡ m .cost → l ≡ m

@@ -12,15 +12,14 @@ use lib.ListN.{getD, getElem?}
 use Rattle.std.specs.Iters.{counting}
 use Rattle.std.specs.shelf.Lists.{All}
 use Rattle.std.proofs.shelf.Tests.{cases-eq, and-parts, and-from, eqb-true, eq-eqb}
-use Rattle.rules.specs.Kinds.{Kind, AtMost, Undominated}
-use Rattle.rules.specs.Fronts.{Front}
+use Rattle.rules.specs.Kinds.{AtMost, Undominated}
 use Rattle.rules.specs.Instances.{Instance, Move, Sound, places, cart-count, moves-of, goal-of, price}
 use Rattle.rules.specs.Walks.{Constraint, Walk, Permitted, Beginning, Obeying, extended-by}
 use Rattle.rules.specs.Offers.{Label, joined-lists, may-go, extended, by-moves, kept, may-stand, stood, arrivals, offers, offer-costs, Offered, Serves}
 use Rattle.rules.specs.Serving.{Ending, NotLater, label-of, Reached, EndsBy, Serving, ServingWalk, Choices, ChoicesRight}
-use Rattle.rules.proofs.Members.{Any, Among, any-map, any-has, among-map, all-at, all-both}
-use Rattle.rules.proofs.Firsts.{First, any-at, any-number, first-at, first-joined, first-map, first-cond, first-counting}
-use Rattle.rules.proofs.Fronts.{SameCost, undominated-same, front-first}
+use Rattle.rules.proofs.Members.{Any, Among, any-map, among-map, all-at, all-both}
+use Rattle.rules.proofs.Firsts.{First, same-at, any-at, any-number, first-at, first-joined, first-map, first-cond, first-counting}
+use Rattle.rules.proofs.Fronts.{SameCost, undominated-same, front-undominated, front-first}
 use Rattle.rules.proofs.Runs.{run-inside}
 use Rattle.rules.proofs.Labels.{brought, reaching, onward-by, any-by-moves, IsRun, moved-to, labels-run, labels-cover, labels-start, labels-first}
 use Rattle.rules.proofs.Offers.{permitted-run, permitted-stands, walk-of, walk-permitted, stood-from, arriving, label-serves, offers-front}
@@ -31,13 +30,6 @@ by-place-and-move : (e f : Ending) → NotLater e f → (e .place < f .place) �
 by-place-and-move e f (inl lower) = inl lower
 by-place-and-move e f (inr (place, inl lower)) = inr (place, omega arith)
 by-place-and-move e f (inr (place, inr (move, label))) = inr (place, omega arith)
-
--- what a front lists is undominated
-front-undominated : {C : Type 0} (k : Kind C) {P : C → Type 0} {cs : List C} → Front k P cs → (c : C) → Among cs c → Undominated k P c
-front-undominated k {P} {cs} front c h = let (d, at, e) = any-has (λ x. x ≡ c) cs h in subst (Undominated k P) e (front .sound d at)
-
-some-same : {X : Type 0} {a b : X} → some a ≡ some b → a ≡ b
-some-same e = cc
 
 module _ {C : Type 0} (i : Instance C) (cart : ℕ) (bans : List Constraint) where
   -- what the labels at u at tick t bring to p by the move m
@@ -92,7 +84,7 @@ module _ {C : Type 0} (i : Instance C) (cart : ℕ) (bans : List Constraint) whe
         x,
         record { former = former; taken = m; kept-there = at-x; move-there = at; reaches = eqb-true (m .to) p (parts .0); allowed = parts .1; made = made },
         λ l′ x′ c same.
-            let by-m : c .taken ≡ m = some-same (sym (c .move-there) ∙ at) in
+            let by-m : c .taken ≡ m = same-at (moves-of i u) n (c .taken) m (c .move-there) at in
             low x′ (c .former) (c .kept-there) (rw (← by-m) (ap (λ f. f .cost) (c .made) ∙ same)),
       )
 
@@ -258,8 +250,10 @@ module _ {C : Type 0} (i : Instance C) (cart : ℕ) (bans : List Constraint) whe
 
 pub choices-right : {C : Type 0} → ChoicesRight C
 choices-right i sound cart known bans =
-    let right = choices i cart bans sound known in
-    (right, λ labels on-offer other. (
-      same-labels i (sound .laws) cart bans labels (kept i cart bans) on-offer (offers i cart bans) other right,
-      same-offers i (sound .laws) cart bans labels (kept i cart bans) on-offer (offers i cart bans) other right,
-    ))
+    let right = choices i cart bans sound known in (
+      right,
+      λ labels on-offer other. (
+        same-labels i (sound .laws) cart bans labels (kept i cart bans) on-offer (offers i cart bans) other right,
+        same-offers i (sound .laws) cart bans labels (kept i cart bans) on-offer (offers i cart bans) other right,
+      ),
+    )
