@@ -3,19 +3,18 @@
 use mathlib.Core.Path.{_≡_, refl, sym, ap, subst, _∙_}
 use mathlib.Core.Bool.{Bool, true, false, cond}
 use mathlib.Core.List.{List, [], _∷_, map}
-use mathlib.Core.Logic.{_⊎_, inl, inr}
+use mathlib.Core.Logic.{inl, inr}
 use mathlib.Core.Option.{Option, none, some}
 use Prim.Native.Nat.{ℕ, zero, suc, _+_, _≤_, _<_}
 use native.Mathlib.Omega.{arith}
 use lib.Dec.{leb}
 use Rattle.std.proofs.shelf.Tests.{both-ways, cases-eq, cases-order, cond-both}
-use Rattle.rules.specs.Instances.{Instance, Sound}
+use Rattle.rules.specs.Instances.{Instance}
 use Rattle.rules.specs.Fronts.{covered}
 use Rattle.rules.specs.Walks.{subject}
 use Rattle.rules.specs.Offers.{Label, label-count}
-use Rattle.rules.specs.Plans.{Conflict, first-conflict}
-use Rattle.rules.specs.Search.{Phase, at-branch, seeking, done, Branching, Search, Limits, standing, branch-cost, Stop, Turned, stopped, went, turn, made, is-done, Ending, budget-spent, search-done, stop, Advance, going, over, after-turn, one-turn, ended-by-budget, turns-of, advance}
-use Rattle.rules.specs.Search.{list-it, branch-on, list-or-branch, examine, give-up, put-back, take-next, seek-offer, seek-root, seek, turn-in}
+use Rattle.rules.specs.Plans.{Conflict}
+use Rattle.rules.specs.Search.{Phase, at-branch, seeking, done, Branching, Search, Limits, standing, branch-cost, Stop, Turned, stopped, went, turn, made, is-done, Ending, budget-spent, search-done, stop, Advance, going, over, after-turn, ended-by-budget, turns-of, advance, list-or-branch, put-back, take-next, seek, turn-in}
 use Rattle.rules.specs.Guarantee.{Reached, at-once, by-turn}
 use Rattle.rules.specs.Advances.{examined-in, Run, no-turn, then-turn, EndsBy, Advanced, InAll, no-advance, then-advance, AdvanceRight, AdvancesRight}
 use Rattle.rules.proofs.Guarantee.{guaranteed}
