@@ -17,6 +17,7 @@ use Rattle.rules.specs.Plans.{Conflict}
 use Rattle.rules.specs.Search.{Phase, at-branch, seeking, done, Branching, Search, Limits, standing, branch-cost, Stop, Turned, stopped, went, turn, made, is-done, Ending, budget-spent, search-done, stop, Advance, going, over, after-turn, ended-by-budget, turns-of, advance, list-or-branch, put-back, take-next, seek, turn-in}
 use Rattle.rules.specs.Guarantee.{Reached, at-once, by-turn}
 use Rattle.rules.specs.Advances.{examined-in, Run, no-turn, then-turn, EndsBy, Advanced, InAll, no-advance, then-advance, AdvanceRight, AdvancesRight}
+use Rattle.rules.proofs.RootTurns.{stopped-not-went}
 use Rattle.rules.proofs.Guarantee.{guaranteed}
 
 finished : (p : Phase) → is-done p ≡ true → p ≡ done
@@ -75,9 +76,6 @@ module _ {C : Type 0} (i : Instance C) (room : Limits) where
   run-reached : {q r : Search C} {m n e : ℕ} → Reached i room m q → Run i room q n e r → Reached i room (m + n) r
   run-reached {m} h no-turn = let same : m + 0 ≡ m = omega arith in rw same h
   run-reached {m} h (then-turn {n} run on t) = let same : m + suc n ≡ suc (m + n) = omega arith in rw same (by-turn (run-reached h run) on t)
-
-  stopped-not-went : {s : Stop} {x : ℕ} {q : Search C} → stopped s ≡ went x q → ⊥
-  stopped-not-went e = let z : _≡_ {A = ℕ} 0 1 = cc in omega arith
 
   same-run : {q r s : Search C} {n m e f : ℕ} → Run i room q n e r → Run i room q m f s → n ≡ m → (e ≡ f) × (r ≡ s)
   same-run no-turn no-turn same = (refl, refl)

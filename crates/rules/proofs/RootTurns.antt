@@ -1,0 +1,107 @@
+-- A turn that seeks a root takes the first one not taken, and stops exactly where some cart has more labels than there are rows.
+-- Assumes nothing.
+use mathlib.Core.Path.{_≡_, refl, sym, ap, subst, _∙_}
+use mathlib.Core.List.{List, []}
+use mathlib.Core.Option.{Option, none, some}
+use mathlib.Core.Bool.{Bool, true, false, cond}
+use mathlib.Core.Logic.{_↔_, inl, inr}
+use Prim.Native.Nat.{ℕ, zero, suc, _+_, _≤_, _<_}
+use native.Mathlib.Omega.{arith}
+use lib.Dec.{leb}
+use lib.ListN.{replicate}
+use Rattle.std.specs.Iters.{counting}
+use Rattle.std.proofs.shelf.Tests.{cond-both, cases-eq, cases-bool, and-parts, and-cases, leb-true, leb-false, both-ways, cond-false}
+use Rattle.rules.specs.Instances.{Instance, cart-count}
+use Rattle.rules.specs.Offers.{Label, label-count}
+use Rattle.rules.specs.Search.{seeking, Search, Limits, Stop, labels-exceeded, stopped, went, free-offers, all-fit, none-empty, after, ended, root-or-end, next-root, seek-root, seek, turn-in, turn}
+use Rattle.rules.specs.Guarantee.{RootBefore, root-numbers, NotTaken}
+use Rattle.rules.specs.Roots.{NextRoot, taken, none-left, RootRight, RootsRight}
+use Rattle.rules.proofs.Roots.{Next, free-within, free-root, first-root, empty-rootless, after-next}
+
+pub stopped-not-went : {C : Type 0} {s : Stop} {x : ℕ} {q : Search C} → stopped s ≡ went x q → ⊥
+stopped-not-went e = let z : _≡_ {A = ℕ} 0 1 = cc in omega arith
+
+module _ {C : Type 0} (i : Instance C) (room : Limits) where
+  abbrev free : List (List (Label C))
+  free = free-offers i room
+
+  module _ (q : Search C) (bare : q .trail ≡ []) where
+    -- with no trail, the roots not taken come after the carts' numbers, once one was taken
+    not-taken : (b : Bool) → q .begun ≡ b → (ns : List ℕ) → NotTaken i q ns ↔ cond b (RootBefore i (q .numbers) ns) (Unit {0})
+    not-taken b e ns =
+        let same : _≡_ {A = Type 0} (NotTaken i q ns) (cond b (RootBefore i (q .numbers) ns) (Unit {0})) = λ j. cond (e j) (RootBefore i (root-numbers i (bare j) (q .numbers)) ns) (Unit {0}) in
+        (λ h. subst (λ X. X) same h, λ h. subst (λ X. X) (sym same) h)
+
+    after-root : q .begun ≡ true → (o : Option (List ℕ)) → Next i room (q .numbers) free o → NextRoot i room q (root-or-end i room q o)
+    after-root on none next = none-left (λ ns r n. next ns (free-within i room ns r) (not-taken true on ns .0 n))
+    after-root on (some ns) next =
+        taken ns (free-root i room ns (next .0)) (not-taken true on ns .1 (next .1)) (λ ms r n. next .2 ms (free-within i room ms r) (not-taken true on ms .0 n))
+
+    pub next-root-is : NextRoot i room q (cond (none-empty i room free) (next-root i room q) (ended i room q))
+    next-root-is =
+        cond-both (none-empty i room free) _ _ (NextRoot i room q)
+        (λ offered. cond-both (q .begun) _ _ (NextRoot i room q)
+        (λ on. after-root on (after i room (q .numbers) free) (after-next i room (q .numbers) free offered))
+        (λ off.
+        let zeros = first-root i room offered in
+        taken (replicate (cart-count i) 0) (free-root i room (replicate (cart-count i) 0) (zeros .0)) (not-taken false off (replicate (cart-count i) 0) .1 tt)
+        (λ ms r _. zeros .1 ms (free-within i room ms r))))
+        (λ empty. none-left (λ ns r _. empty-rootless i room free empty ns (free-within i room ns r)))
+
+    is-seek-root : q .phase ≡ seeking → turn i room q ≡ seek-root i room q
+    is-seek-root e = ap (λ p. turn-in i room p q) e ∙ ap (seek i room q) bare
+
+  -- some cart has more labels than there are rows
+  abbrev Exceeded : ℕ → ℕ → Type 0
+  Exceeded k n = (c : ℕ) × (k ≤ c) × (c < k + n) × (room .labels < label-count i c [])
+
+  not-all-fit : (k n : ℕ) → all-fit i room (counting k n) ≡ false → Exceeded k n
+  not-all-fit k zero h = absurd (both-ways true h refl)
+  not-all-fit k (suc n) h =
+      elim (and-cases (leb (label-count i k []) (room .labels)) (all-fit i room (counting (k + 1) n)) h) [
+        | inl e ↦ (k, omega arith, omega arith, leb-false _ _ e)
+        | inr rest ↦ let (c, from, to, more) = not-all-fit (k + 1) n rest in (c, omega arith, omega arith, more)
+      ]
+
+  all-fit-few : (k n : ℕ) → all-fit i room (counting k n) ≡ true → Exceeded k n → ⊥
+  all-fit-few k zero h x = omega (arith, x .1, x .2)
+  all-fit-few k (suc n) h (c, from, to, more) =
+      let parts = and-parts (leb (label-count i k []) (room .labels)) (all-fit i room (counting (k + 1) n)) h in
+      elim (cases-eq c k) [
+        | inl e ↦ omega (arith, leb-true _ _ (parts .0), ap (λ a. label-count i a []) e)
+        | inr apart ↦ all-fit-few (k + 1) n (parts .1) (c, omega arith, omega arith, more)
+      ]
+
+  module _ (q : Search C) where
+    abbrev next : Search C
+    next = cond (none-empty i room free) (next-root i room q) (ended i room q)
+
+    stopped-by : (fits : Bool) → all-fit i room (counting 0 (cart-count i)) ≡ fits → (s : Stop) → cond fits (went 0 next) (stopped labels-exceeded) ≡ stopped s →
+        (s ≡ labels-exceeded) × Exceeded 0 (cart-count i)
+    stopped-by true h s e = absurd (stopped-not-went (sym e))
+    stopped-by false h s e = (cc, not-all-fit 0 (cart-count i) h)
+
+    went-to : (fits : Bool) (x : ℕ) (r : Search C) → cond fits (went 0 next) (stopped labels-exceeded) ≡ went x r → next ≡ r
+    went-to true x r e = cc
+    went-to false x r e = absurd (stopped-not-went e)
+
+  root-right : RootRight i room
+  root-right =
+      record {
+        leads = λ q r x seeks bare e.
+            subst (NextRoot i room q) (went-to q (all-fit i room (counting 0 (cart-count i))) x r (sym (is-seek-root q bare seeks) ∙ e)) (next-root-is q bare);
+        stops = λ q s seeks bare. (
+          λ e.
+              let (same, (c, from, to, more)) = stopped-by q (all-fit i room (counting 0 (cart-count i))) refl s (sym (is-seek-root q bare seeks) ∙ e) in
+              (same, c, omega arith, more),
+          λ (same, c, known, more).
+              is-seek-root q bare seeks
+              ∙ elim (cases-bool (all-fit i room (counting 0 (cart-count i)))) [
+                | inl fits ↦ absurd (all-fit-few 0 (cart-count i) fits (c, omega arith, omega arith, more))
+                | inr over ↦ cond-false _ _ _ over ∙ ap stopped (sym same)
+              ],
+        );
+      }
+
+pub roots-right : {C : Type 0} → RootsRight C
+roots-right i room = root-right i room
