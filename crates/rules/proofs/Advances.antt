@@ -55,7 +55,7 @@ module _ {C : Type 0} (i : Instance C) (room : Limits) where
   counts-seek q (b ∷ below) = counts-or (leb (label-count i (subject (standing b)) (map standing (b ∷ below))) (room .labels)) (counts-next q b below _) stops
 
   counts : (q : Search C) (p : Phase) → Counts (examined-in p) (turn-in i room p q)
-  counts q at-branch = counts-or (covered (i .kind) (q .listed) (branch-cost i room q)) goes (counts-branch q _ _)
+  counts q at-branch = counts-or (covered (i .kind) (q .listed) (branch-cost i q)) goes (counts-branch q _ _)
   counts q seeking = counts-seek q (q .trail)
   counts q done = goes
 
@@ -106,23 +106,23 @@ module _ {C : Type 0} (i : Instance C) (room : Limits) where
     turns-over (suc b) n e why r = turns-over b n e why r
 
     has-ended : (b n e : ℕ) (why : Ending) (r : Search C) → Run i room q n e r → n ≤ budget → EndsBy i room budget n r why →
-        Ended (ended-by-budget i room (turns-of i room b (over n e why r)))
+        Ended (ended-by-budget (turns-of i room b (over n e why r)))
     has-ended b n e why r run within ends = rw (turns-over b n e why r) (record { run = run; within = within; ends = ends })
 
     -- where the next turn stops the advance ends, else it goes on
     by-turn-or-stop : (b n e : ℕ) (r : Search C) → n < budget → is-done (r .phase) ≡ false → Run i room q n e r →
-        ((x : ℕ) (s : Search C) → turn i room r ≡ went x s → Ended (ended-by-budget i room (turns-of i room b (going (suc n) (e + x) s)))) →
-        (t : Turned C) → turn i room r ≡ t → Ended (ended-by-budget i room (turns-of i room b (after-turn i room n e r t)))
+        ((x : ℕ) (s : Search C) → turn i room r ≡ went x s → Ended (ended-by-budget (turns-of i room b (going (suc n) (e + x) s)))) →
+        (t : Turned C) → turn i room r ≡ t → Ended (ended-by-budget (turns-of i room b (after-turn n e r t)))
     by-turn-or-stop b n e r within on run next (stopped s) t = has-ended b n e (stop s) r run (omega arith) (on, within, t)
     by-turn-or-stop b n e r within on run next (went x s) t = next x s t
 
-    takes : (b n e : ℕ) (r : Search C) → n + b ≡ budget → Run i room q n e r → Ended (ended-by-budget i room (turns-of i room b (going n e r)))
+    takes : (b n e : ℕ) (r : Search C) → n + b ≡ budget → Run i room q n e r → Ended (ended-by-budget (turns-of i room b (going n e r)))
     takes zero n e r sum run =
         cond-both (is-done (r .phase)) search-done budget-spent (λ why. Advanced i room budget q n e why r)
         (λ ready. record { run = run; within = omega arith; ends = finished (r .phase) ready })
         (λ on. record { run = run; within = omega arith; ends = (on, omega arith) })
     takes (suc b) n e r sum run =
-        cond-both (is-done (r .phase)) (over n e search-done r) (after-turn i room n e r (turn i room r)) (λ a. Ended (ended-by-budget i room (turns-of i room b a)))
+        cond-both (is-done (r .phase)) (over n e search-done r) (after-turn n e r (turn i room r)) (λ a. Ended (ended-by-budget (turns-of i room b a)))
         (λ ready. has-ended b n e search-done r run (omega arith) (finished (r .phase) ready))
         (λ on.
         by-turn-or-stop b n e r (omega arith) on run
@@ -203,7 +203,7 @@ module _ {C : Type 0} (i : Instance C) (room : Limits) where
   advance-reached : (budget m n e : ℕ) (why : Ending) (q r : Search C) → Reached i room m q → advance i room budget q ≡ over n e why r → Reached i room (m + n) r
   advance-reached budget m n e why q r h a = run-reached h (answered budget q n e why r a .run)
 
-  all-reached : (budgets : List ℕ) (n : ℕ) (q : Search C) → InAll i room (made i room) budgets n q → Reached i room n q
+  all-reached : (budgets : List ℕ) (n : ℕ) (q : Search C) → InAll i room (made i) budgets n q → Reached i room n q
   all-reached budgets n q no-advance = at-once
   all-reached budgets n q (then-advance {budgets = rest} {m = m} {r = r} budget k e why before a) = advance-reached budget m k e why r q (all-reached rest m r before) a
 

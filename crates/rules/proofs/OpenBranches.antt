@@ -70,11 +70,11 @@ module _ {C : Type 0} (i : Instance C) where
   Others [] ns = Unit {0}
   Others (b ∷ below) ns = (c : ℕ) → c < cart-count i → (c ≡ subject (standing b) → ⊥) → getD ns c 0 < length (offers i c (map standing below))
 
-  undone-numbered : (b : Branching) (below : List Branching) (ns : List ℕ) → Rows i (b ∷ below) → length ns ≡ cart-count i → Others (b ∷ below) ns → Numbered (map standing below) (undone i b ns)
+  undone-numbered : (b : Branching) (below : List Branching) (ns : List ℕ) → Rows i (b ∷ below) → length ns ≡ cart-count i → Others (b ∷ below) ns → Numbered (map standing below) (undone b ns)
   undone-numbered b below ns rows long others = (
     length-set ns (subject (standing b)) (b .former) ∙ long,
     λ c known. elim (cases-eq c (subject (standing b))) [
-      | inl same ↦ subst (λ a. getD (undone i b ns) a 0 < length (offers i a (map standing below))) (sym same) (rw (getD-set-same ns (subject (standing b)) (b .former) 0 (omega arith)) (rows .2))
+      | inl same ↦ subst (λ a. getD (undone b ns) a 0 < length (offers i a (map standing below))) (sym same) (rw (getD-set-same ns (subject (standing b)) (b .former) 0 (omega arith)) (rows .2))
       | inr apart ↦ rw (getD-set-other ns (subject (standing b)) c (b .former) 0 apart) (others c known apart)
     ],
   )
@@ -86,21 +86,21 @@ module _ {C : Type 0} (i : Instance C) where
   left-branch : (trail : List Branching) (ns : List ℕ) {bans : List Constraint} {cs : List C} → Rows i trail → length ns ≡ cart-count i → Others trail ns → Left i trail ns bans cs → Branch i bans cs
   left-branch [] ns rows long others l = elim l [ ]
   left-branch (b ∷ below) ns rows long others (under-standing n from lt) =
-      branch-under (standing b) (map standing below) (undone i b ns) n (undone-numbered b below ns rows long others) lt
+      branch-under (standing b) (map standing below) (undone b ns) n (undone-numbered b below ns rows long others) lt
   left-branch (b ∷ below) ns rows long others (under-second n first lt) =
-      branch-under (b .second) (map standing below) (undone i b ns) n (undone-numbered b below ns rows long others) lt
+      branch-under (b .second) (map standing below) (undone b ns) n (undone-numbered b below ns rows long others) lt
   left-branch (b ∷ below) ns rows long others (deeper l) =
       let numbered = undone-numbered b below ns rows long others in
-      left-branch below (undone i b ns) (rows .3) (numbered .0) (numbered-others below (undone i b ns) numbered) l
+      left-branch below (undone b ns) (rows .3) (numbered .0) (numbered-others below (undone b ns) numbered) l
 
-  root-numbered : (room : Limits) (ns : List ℕ) → IsRoot i 0 ns → Numbered [] ns
-  root-numbered room ns r =
-      let w = free-within i room ns r in (
-        length-within i room (free-offers i room) ns w ∙ length-free i room,
-        λ c known. at-place (offers i c []) (getD ns c 0) _ (free-picked i room ns c (record { cost = i .kind .zero; item = [] }) w known) .0,
+  root-numbered : (ns : List ℕ) → IsRoot i 0 ns → Numbered [] ns
+  root-numbered ns r =
+      let w = free-within i ns r in (
+        length-within i (free-offers i) ns w ∙ length-free i,
+        λ c known. at-place (offers i c []) (getD ns c 0) _ (free-picked i ns c (record { cost = i .kind .zero; item = [] }) w known) .0,
       )
 
-  module _ (room : Limits) (q : Search C) (inv : Inv i q) where
+  module _ (q : Search C) (inv : Inv i q) where
     held : (bans : List Constraint) (c : ℕ) → Holds i bans q c → getD (q .numbers) c 0 < length (offers i c bans)
     held bans c h = at-place (offers i c bans) (getD (q .numbers) c 0) (h .offer) (h .found) .0
 
@@ -120,5 +120,5 @@ module _ {C : Type 0} (i : Instance C) where
     open-branch bans cs (here e) =
         let bans = map standing (q .trail) in
         rw (costs-are i bans q (inv .sized) (inv .settled e)) (costs-branch bans (q .numbers) (inv .sized .0, λ c known. held bans c (inv .settled e c known)))
-    open-branch bans cs (root ns r n) = costs-branch [] ns (root-numbered room ns r)
+    open-branch bans cs (root ns r n) = costs-branch [] ns (root-numbered ns r)
     open-branch bans cs (left l) = left-branch (q .trail) (q .numbers) (inv .rows) (inv .sized .0) open-others l

@@ -23,30 +23,30 @@ stopped-not-went e = let z : _≡_ {A = ℕ} 0 1 = cc in omega arith
 
 module _ {C : Type 0} (i : Instance C) (room : Limits) where
   abbrev free : List (List (Label C))
-  free = free-offers i room
+  free = free-offers i
 
   module _ (q : Search C) (bare : q .trail ≡ []) where
     -- with no trail, the roots not taken come after the carts' numbers, once one was taken
-    not-taken : (b : Bool) → q .begun ≡ b → (ns : List ℕ) → NotTaken i q ns ↔ cond b (RootBefore i (q .numbers) ns) (Unit {0})
+    not-taken : (b : Bool) → q .begun ≡ b → (ns : List ℕ) → NotTaken q ns ↔ cond b (RootBefore (q .numbers) ns) (Unit {0})
     not-taken b e ns =
-        let same : _≡_ {A = Type 0} (NotTaken i q ns) (cond b (RootBefore i (q .numbers) ns) (Unit {0})) = λ j. cond (e j) (RootBefore i (root-numbers i (bare j) (q .numbers)) ns) (Unit {0}) in
+        let same : _≡_ {A = Type 0} (NotTaken q ns) (cond b (RootBefore (q .numbers) ns) (Unit {0})) = λ j. cond (e j) (RootBefore (root-numbers (bare j) (q .numbers)) ns) (Unit {0}) in
         (λ h. subst (λ X. X) same h, λ h. subst (λ X. X) (sym same) h)
 
-    after-root : q .begun ≡ true → (o : Option (List ℕ)) → Next i room (q .numbers) free o → NextRoot i room q (root-or-end i room q o)
-    after-root on none next = none-left (λ ns r n. next ns (free-within i room ns r) (not-taken true on ns .0 n))
+    after-root : q .begun ≡ true → (o : Option (List ℕ)) → Next i (q .numbers) free o → NextRoot i q (root-or-end i q o)
+    after-root on none next = none-left (λ ns r n. next ns (free-within i ns r) (not-taken true on ns .0 n))
     after-root on (some ns) next =
-        taken ns (free-root i room ns (next .0)) (not-taken true on ns .1 (next .1)) (λ ms r n. next .2 ms (free-within i room ms r) (not-taken true on ms .0 n))
+        taken ns (free-root i ns (next .0)) (not-taken true on ns .1 (next .1)) (λ ms r n. next .2 ms (free-within i ms r) (not-taken true on ms .0 n))
 
-    pub next-root-is : NextRoot i room q (cond (none-empty i room free) (next-root i room q) (ended i room q))
+    pub next-root-is : NextRoot i q (cond (none-empty free) (next-root i q) (ended q))
     next-root-is =
-        cond-both (none-empty i room free) _ _ (NextRoot i room q)
-        (λ offered. cond-both (q .begun) _ _ (NextRoot i room q)
-        (λ on. after-root on (after i room (q .numbers) free) (after-next i room (q .numbers) free offered))
+        cond-both (none-empty free) _ _ (NextRoot i q)
+        (λ offered. cond-both (q .begun) _ _ (NextRoot i q)
+        (λ on. after-root on (after (q .numbers) free) (after-next i (q .numbers) free offered))
         (λ off.
-        let zeros = first-root i room offered in
-        taken (replicate (cart-count i) 0) (free-root i room (replicate (cart-count i) 0) (zeros .0)) (not-taken false off (replicate (cart-count i) 0) .1 tt)
-        (λ ms r _. zeros .1 ms (free-within i room ms r))))
-        (λ empty. none-left (λ ns r _. empty-rootless i room free empty ns (free-within i room ns r)))
+        let zeros = first-root i offered in
+        taken (replicate (cart-count i) 0) (free-root i (replicate (cart-count i) 0) (zeros .0)) (not-taken false off (replicate (cart-count i) 0) .1 tt)
+        (λ ms r _. zeros .1 ms (free-within i ms r))))
+        (λ empty. none-left (λ ns r _. empty-rootless i free empty ns (free-within i ns r)))
 
     is-seek-root : q .phase ≡ seeking → turn i room q ≡ seek-root i room q
     is-seek-root e = ap (λ p. turn-in i room p q) e ∙ ap (seek i room q) bare
@@ -74,7 +74,7 @@ module _ {C : Type 0} (i : Instance C) (room : Limits) where
 
   module _ (q : Search C) where
     abbrev next : Search C
-    next = cond (none-empty i room free) (next-root i room q) (ended i room q)
+    next = cond (none-empty free) (next-root i q) (ended q)
 
     stopped-by : (fits : Bool) → all-fit i room (counting 0 (cart-count i)) ≡ fits → (s : Stop) → cond fits (went 0 next) (stopped labels-exceeded) ≡ stopped s →
         (s ≡ labels-exceeded) × Exceeded 0 (cart-count i)
@@ -89,7 +89,7 @@ module _ {C : Type 0} (i : Instance C) (room : Limits) where
   root-right =
       record {
         leads = λ q r x seeks bare e.
-            subst (NextRoot i room q) (went-to q (all-fit i room (counting 0 (cart-count i))) x r (sym (is-seek-root q bare seeks) ∙ e)) (next-root-is q bare);
+            subst (NextRoot i q) (went-to q (all-fit i room (counting 0 (cart-count i))) x r (sym (is-seek-root q bare seeks) ∙ e)) (next-root-is q bare);
         stops = λ q s seeks bare. (
           λ e.
               let (same, (c, from, to, more)) = stopped-by q (all-fit i room (counting 0 (cart-count i))) refl s (sym (is-seek-root q bare seeks) ∙ e) in

@@ -55,8 +55,8 @@ module _ {C : Type 0} (i : Instance C) (room : Limits) where
     pub larger : (budget more n e : ℕ) (why : Ending) (q r : Search C) → (why ≡ budget-spent → ⊥) → advance i room budget q ≡ over n e why r → budget ≤ more →
         advance i room more q ≡ over n e why r
     -- whatever the budgets, the turns answered lead where so many turns do; and one number bounds them all
-    pub in-all : (budgets : List ℕ) (n : ℕ) (q : Search C) → InAll (made i room) budgets n q → Reached i room n q
-    pub bounded : Sound i → (most : ℕ) × ((budgets : List ℕ) (n : ℕ) (q : Search C) → InAll (made i room) budgets n q → n ≤ most)
+    pub in-all : (budgets : List ℕ) (n : ℕ) (q : Search C) → InAll (made i) budgets n q → Reached i room n q
+    pub bounded : Sound i → (most : ℕ) × ((budgets : List ℕ) (n : ℕ) (q : Search C) → InAll (made i) budgets n q → n ≤ most)
 
 -- every instance, sound or not, whatever room its tables give
 abbrev pub AdvancesRight : Type 0 → Type 0
