@@ -13,7 +13,7 @@ use Rattle.std.proofs.shelf.Tests.{cases-eq}
 use Rattle.rules.specs.Instances.{Instance, cart-count}
 use Rattle.rules.specs.Walks.{Constraint, subject}
 use Rattle.rules.specs.Offers.{offers, offer-costs}
-use Rattle.rules.specs.Search.{Phase, at-branch, seeking, done, Branching, Search, Limits, standing, free-offers}
+use Rattle.rules.specs.Search.{Phase, at-branch, seeking, done, Branching, Search, standing, free-offers}
 use Rattle.rules.specs.Guarantee.{offer-cost, costs-of, undone, IsRoot, Left, under-standing, under-second, deeper, Open, here, root, left, Branch}
 use Rattle.rules.proofs.Members.{at-place}
 use Rattle.rules.proofs.OtherCarts.{offers-same}
