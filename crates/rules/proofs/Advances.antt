@@ -42,7 +42,7 @@ module _ {C : Type 0} (i : Instance C) (room : Limits) where
   counts-branch q c none = counts-or _ goes stops
   counts-branch q c (some b) = counts-or _ goes stops
 
-  counts-back : (q : Search C) (b : Branching) (below : List Branching) (o : Option (Label C)) → Counts 0 (put-back i room q b below o)
+  counts-back : (q : Search C) (b : Branching) (below : List Branching) (o : Option (Label C)) → Counts 0 (put-back q b below o)
   counts-back q b below none = stops
   counts-back q b below (some o) = goes
 

@@ -1,7 +1,7 @@
--- A turn that seeks a root takes the first one not taken, and stops exactly where some cart has more labels than there are rows.
+-- What a turn that seeks a root comes to: the first root not taken, and whether the label rows suffice for every cart.
 -- Assumes nothing.
-use mathlib.Core.Path.{_≡_, refl, sym, ap, subst, _∙_}
-use mathlib.Core.List.{List, []}
+use mathlib.Core.Path.{_≡_, refl, sym, ap, subst}
+use mathlib.Core.List.{List, [], _∷_}
 use mathlib.Core.Option.{Option, none, some}
 use mathlib.Core.Bool.{Bool, true, false, cond}
 use mathlib.Core.Logic.{_↔_, inl, inr}
@@ -10,18 +10,18 @@ use native.Mathlib.Omega.{arith}
 use lib.Dec.{leb}
 use lib.ListN.{replicate}
 use Rattle.std.specs.Iters.{counting}
-use Rattle.std.proofs.shelf.Tests.{cond-both, cases-eq, cases-bool, and-parts, and-cases, leb-true, leb-false, both-ways, cond-false}
+use Rattle.std.proofs.shelf.Tests.{cond-both, cases-eq, and-parts, and-cases, leb-true, leb-false, both-ways}
 use Rattle.rules.specs.Instances.{Instance, cart-count}
 use Rattle.rules.specs.Offers.{Label, label-count}
-use Rattle.rules.specs.Search.{seeking, Search, Limits, Stop, labels-exceeded, stopped, went, free-offers, all-fit, none-empty, after, ended, root-or-end, next-root, seek-root, seek, turn-in, turn}
+use Rattle.rules.specs.Search.{Search, Limits, Stop, stopped, went, free-offers, all-fit, none-empty, after, ended, at-root, root-or-end, next-root}
 use Rattle.rules.specs.Guarantee.{RootBefore, root-numbers, NotTaken}
-use Rattle.rules.specs.Roots.{NextRoot, taken, none-left, RootRight, RootsRight}
+use Rattle.rules.specs.Turns.{NextRoot, taken, none-left}
 use Rattle.rules.proofs.Roots.{Next, free-within, free-root, first-root, empty-rootless, after-next}
 
 pub stopped-not-went : {C : Type 0} {s : Stop} {x : ℕ} {q : Search C} → stopped s ≡ went x q → ⊥
 stopped-not-went e = let z : _≡_ {A = ℕ} 0 1 = cc in omega arith
 
-module _ {C : Type 0} (i : Instance C) (room : Limits) where
+module _ {C : Type 0} (i : Instance C) where
   abbrev free : List (List (Label C))
   free = free-offers i
 
@@ -48,14 +48,12 @@ module _ {C : Type 0} (i : Instance C) (room : Limits) where
         (λ ms r _. zeros .1 ms (free-within i ms r))))
         (λ empty. none-left (λ ns r _. empty-rootless i free empty ns (free-within i ns r)))
 
-    is-seek-root : q .phase ≡ seeking → turn i room q ≡ seek-root i room q
-    is-seek-root e = ap (λ p. turn-in i room p q) e ∙ ap (seek i room q) bare
-
+module _ {C : Type 0} (i : Instance C) (room : Limits) where
   -- some cart has more labels than there are rows
-  abbrev Exceeded : ℕ → ℕ → Type 0
+  abbrev pub Exceeded : ℕ → ℕ → Type 0
   Exceeded k n = (c : ℕ) × (k ≤ c) × (c < k + n) × (room .labels < label-count i c [])
 
-  not-all-fit : (k n : ℕ) → all-fit i room (counting k n) ≡ false → Exceeded k n
+  pub not-all-fit : (k n : ℕ) → all-fit i room (counting k n) ≡ false → Exceeded k n
   not-all-fit k zero h = absurd (both-ways true h refl)
   not-all-fit k (suc n) h =
       elim (and-cases (leb (label-count i k []) (room .labels)) (all-fit i room (counting (k + 1) n)) h) [
@@ -63,7 +61,7 @@ module _ {C : Type 0} (i : Instance C) (room : Limits) where
         | inr rest ↦ let (c, from, to, more) = not-all-fit (k + 1) n rest in (c, omega arith, omega arith, more)
       ]
 
-  all-fit-few : (k n : ℕ) → all-fit i room (counting k n) ≡ true → Exceeded k n → ⊥
+  pub all-fit-few : (k n : ℕ) → all-fit i room (counting k n) ≡ true → Exceeded k n → ⊥
   all-fit-few k zero h x = omega (arith, x .1, x .2)
   all-fit-few k (suc n) h (c, from, to, more) =
       let parts = and-parts (leb (label-count i k []) (room .labels)) (all-fit i room (counting (k + 1) n)) h in
@@ -72,36 +70,20 @@ module _ {C : Type 0} (i : Instance C) (room : Limits) where
         | inr apart ↦ all-fit-few (k + 1) n (parts .1) (c, omega arith, omega arith, more)
       ]
 
-  module _ (q : Search C) where
-    abbrev next : Search C
-    next = cond (none-empty free) (next-root i q) (ended q)
+before-once : (ns ms : List ℕ) → RootBefore ns ms → RootBefore ms ns → ⊥
+before-once [] ms b c = b
+before-once (n ∷ ns) [] b c = b
+before-once (n ∷ ns) (m ∷ ms) (inl b) (inl c) = omega arith
+before-once (n ∷ ns) (m ∷ ms) (inl b) (inr c) = omega (arith, c .0)
+before-once (n ∷ ns) (m ∷ ms) (inr b) (inl c) = omega (arith, b .0)
+before-once (n ∷ ns) (m ∷ ms) (inr b) (inr c) = before-once ns ms (b .1) (c .1)
 
-    stopped-by : (fits : Bool) → all-fit i room (counting 0 (cart-count i)) ≡ fits → (s : Stop) → cond fits (went 0 next) (stopped labels-exceeded) ≡ stopped s →
-        (s ≡ labels-exceeded) × Exceeded 0 (cart-count i)
-    stopped-by true h s e = absurd (stopped-not-went (sym e))
-    stopped-by false h s e = (cc, not-all-fit 0 (cart-count i) h)
-
-    went-to : (fits : Bool) (x : ℕ) (r : Search C) → cond fits (went 0 next) (stopped labels-exceeded) ≡ went x r → next ≡ r
-    went-to true x r e = cc
-    went-to false x r e = absurd (stopped-not-went e)
-
-  root-right : RootRight i room
-  root-right =
-      record {
-        leads = λ q r x seeks bare e.
-            subst (NextRoot i q) (went-to q (all-fit i room (counting 0 (cart-count i))) x r (sym (is-seek-root q bare seeks) ∙ e)) (next-root-is q bare);
-        stops = λ q s seeks bare. (
-          λ e.
-              let (same, (c, from, to, more)) = stopped-by q (all-fit i room (counting 0 (cart-count i))) refl s (sym (is-seek-root q bare seeks) ∙ e) in
-              (same, c, omega arith, more),
-          λ (same, c, known, more).
-              is-seek-root q bare seeks
-              ∙ elim (cases-bool (all-fit i room (counting 0 (cart-count i)))) [
-                | inl fits ↦ absurd (all-fit-few 0 (cart-count i) fits (c, omega arith, omega arith, more))
-                | inr over ↦ cond-false _ _ _ over ∙ ap stopped (sym same)
-              ],
-        );
-      }
-
-pub roots-right : {C : Type 0} → RootsRight C
-roots-right i room = root-right i room
+pub one-next-root : {C : Type 0} (i : Instance C) {q r s : Search C} → NextRoot i q r → NextRoot i q s → r ≡ s
+one-next-root i {q} (taken ns root left first) (taken ms root′ left′ first′) =
+    elim (first ms root′ left′) [
+      | inl same ↦ ap (at-root i q) same
+      | inr before ↦ elim (first′ ns root left) [ inl same ↦ ap (at-root i q) (sym same) | inr after ↦ absurd (before-once ns ms before after) ]
+    ]
+one-next-root i (taken ns root left first) (none-left no-root) = absurd (no-root ns root left)
+one-next-root i (none-left no-root) (taken ms root′ left′ first′) = absurd (no-root ms root′ left′)
+one-next-root i (none-left no-root) (none-left no-root′) = refl
