@@ -8,7 +8,7 @@ use mathlib.Core.Option.{Option, none, some}
 use Prim.Native.Nat.{ℕ, _≤_, _<_}
 use native.Mathlib.Omega.{arith}
 use lib.Dec.{leb, ltb}
-use lib.ListN.{length, getElem?}
+use lib.ListN.{length, getElem?, set}
 use Rattle.std.specs.Iters.{counting}
 use Rattle.std.proofs.shelf.Elements.{all-has, all-map}
 use Rattle.std.proofs.shelf.Tests.{cond-both, cond-true, cond-false, cases-bool, cases-lt, both-ways, ltb-true, ltb-false, lt-ltb, le-ltb, leb-true, leb-false, le-leb, lt-leb}
@@ -16,8 +16,8 @@ use Rattle.rules.specs.Fronts.{covered}
 use Rattle.rules.specs.Instances.{Instance, cart-count}
 use Rattle.rules.specs.Offers.{Label, offers, label-count}
 use Rattle.rules.specs.Plans.{Conflict, first-conflict}
-use Rattle.rules.specs.Search.{Phase, at-branch, seeking, done, Branching, Search, Limits, labels-exceeded, Turned, stopped, went, standing, branch-cost, list-or-branch, examine, put-back, take-next, seek-offer, all-fit, seek-root, seek, turn-in, turn}
-use Rattle.rules.specs.Turns.{its-cart, next-number, Beaten, staying, Fits, NoneNext, AtBranch, drops, lists, no-list-row, branches, no-trail-row, AtBranching, many-labels, takes, many-labels-below, no-former, puts-back, AtRoots, many-labels-free, moves-on, Rule, at-a-branch, at-a-branching, at-the-roots, at-the-end, TurnsRight}
+use Rattle.rules.specs.Search.{Phase, at-branch, seeking, done, Branching, Search, Limits, labels-exceeded, Turned, stopped, went, standing, with-offer, turned-over, branch-cost, list-or-branch, examine, put-back, take-next, seek-offer, all-fit, seek-root, seek, turn-in, turn}
+use Rattle.rules.specs.Turns.{its-cart, next-number, to-second, Beaten, staying, Fits, NoneNext, Former, AtBranch, drops, lists, no-list-row, branches, no-trail-row, AtBranching, many-labels, takes, many-labels-below, no-former, turns-over, ends, AtRoots, many-labels-free, moves-on, Rule, at-a-branch, at-a-branching, at-the-roots, at-the-end, TurnsRight}
 use Rattle.rules.proofs.Members.{at-place, at-past}
 use Rattle.rules.proofs.Fronts.{covered-true, covered-false, covered-cost}
 use Rattle.rules.proofs.Conflicts.{is-first, is-none, first-conflict-right}
@@ -86,10 +86,17 @@ module _ {C : Type 0} (i : Instance C) (room : Limits) where
       abbrev fits-before : Bool
       fits-before = leb (label-count i (its-cart b) (map standing below)) (room .labels)
 
+      -- the carts' numbers with the former one put back
+      abbrev numbers : List ℕ
+      numbers = set (q .numbers) (its-cart b) (b .former)
+
       put-back-rule : NoneNext i room b below → Fits i room (its-cart b) (map standing below) → (o : Option (Label C)) → getElem? before (b .former) ≡ o →
           AtBranching i room q b below (put-back q b below o)
       put-back-rule none-next fits none e = no-former none-next fits (at-past before (b .former) e)
-      put-back-rule none-next fits (some o) e = puts-back o none-next fits e
+      put-back-rule none-next fits (some o) e =
+          cond-both (b .turned) below (to-second b numbers ∷ below) (λ trail. AtBranching i room q b below (went 0 (with-offer q seeking trail (its-cart b) (b .former) o)))
+          (ends o none-next (fits, e))
+          (turns-over o none-next (fits, e))
 
       take-next-rule : Fits i room (its-cart b) (map standing (b ∷ below)) → (o : Option (Label C)) → getElem? now (next-number b) ≡ o →
           AtBranching i room q b below (take-next i room q b below o)
@@ -111,13 +118,18 @@ module _ {C : Type 0} (i : Instance C) (room : Limits) where
           cond-true fits-now _ _ (le-leb _ _ (h .0))
           ∙ ap (take-next i room q b below) (past-none now (next-number b) (h .1) (getElem? now (next-number b)) refl)
 
+      puts-back : (o : Label C) → NoneNext i room b below → Former i room b below o →
+          seek-offer i room q b below ≡ went 0 (with-offer q seeking (turned-over b numbers below) (its-cart b) (b .former) o)
+      puts-back o h f = gives-up h ∙ cond-true fits-before _ _ (le-leb _ _ (f .0)) ∙ ap (put-back q b below) (f .1)
+
       rule-seek-offer : (t : Turned C) → AtBranching i room q b below t → seek-offer i room q b below ≡ t
       rule-seek-offer t (many-labels h) = cond-false fits-now _ _ (lt-leb _ _ h)
       rule-seek-offer t (takes o fits e) = cond-true fits-now _ _ (le-leb _ _ fits) ∙ ap (take-next i room q b below) e
       rule-seek-offer t (many-labels-below h exceeds) = gives-up h ∙ cond-false fits-before _ _ (lt-leb _ _ exceeds)
       rule-seek-offer t (no-former h fits past) =
           gives-up h ∙ cond-true fits-before _ _ (le-leb _ _ fits) ∙ ap (put-back q b below) (past-none before (b .former) past (getElem? before (b .former)) refl)
-      rule-seek-offer t (puts-back o h fits e) = gives-up h ∙ cond-true fits-before _ _ (le-leb _ _ fits) ∙ ap (put-back q b below) e
+      rule-seek-offer t (turns-over o h f first) = puts-back o h f ∙ ap (λ trail. went 0 (with-offer q seeking trail (its-cart b) (b .former) o)) (cond-false (b .turned) _ _ first)
+      rule-seek-offer t (ends o h f second) = puts-back o h f ∙ ap (λ trail. went 0 (with-offer q seeking trail (its-cart b) (b .former) o)) (cond-true (b .turned) _ _ second)
 
     -- at the roots
     module _ (bare : q .trail ≡ []) where

@@ -1,7 +1,7 @@
 -- The turn rule, case by case, as a relation: what a turn comes to from any state, and each stop on its condition.
 -- Assumes nothing.
 use mathlib.Core.Path.{_≡_}
-use mathlib.Core.Bool.{false}
+use mathlib.Core.Bool.{true, false}
 use mathlib.Core.List.{List, [], _∷_, map}
 use mathlib.Core.Logic.{_⊎_, _↔_}
 use mathlib.Core.Option.{none, some}
@@ -15,7 +15,7 @@ use Rattle.rules.specs.Walks.{Constraint, subject}
 use Rattle.rules.specs.Offers.{Label, offers, label-count}
 use Rattle.rules.specs.Plans.{Conflict}
 use Rattle.rules.specs.Conflicts.{NoConflict, First}
-use Rattle.rules.specs.Search.{at-branch, seeking, done, Branching, Line, Search, Limits, offer-missing, labels-exceeded, trail-full, list-full, Turned, stopped, went, standing, untaken, sought, with-offer, turned-over, ended, branch-cost, at-root, turn}
+use Rattle.rules.specs.Search.{at-branch, seeking, done, Branching, Line, Search, Limits, offer-missing, labels-exceeded, trail-full, list-full, Turned, stopped, went, standing, untaken, sought, with-offer, ended, branch-cost, at-root, turn}
 use Rattle.rules.specs.Guarantee.{IsRoot, RootBefore, NotTaken, listed-costs}
 
 -- the cart of a branching's standing constraint, the number of its next offer, and the branching once that is taken
@@ -27,6 +27,10 @@ next-number b = untaken (b .taken)
 
 abbrev pub with-next : Branching → Branching
 with-next b = record { first = b .first; second = b .second; turned = b .turned; taken = some (next-number b); former = b .former }
+
+-- and the branching as it turns to its second constraint, where the carts' offers are numbered so
+abbrev pub to-second : Branching → List ℕ → Branching
+to-second b numbers = record { first = b .first; second = b .second; turned = true; taken = none; former = getD numbers (subject (b .second)) 0 }
 
 -- a branching on a conflict: the lower cart's constraint stands, and no offer is taken
 abbrev pub branching : {C : Type 0} → Search C → Conflict → Branching
@@ -63,6 +67,10 @@ module _ {C : Type 0} (i : Instance C) where
     abbrev pub NoneNext : Branching → List Branching → Type 0
     NoneNext b below = Fits (its-cart b) (map standing (b ∷ below)) × (length (offers i (its-cart b) (map standing (b ∷ below))) ≤ next-number b)
 
+    -- its cart's former offer, under the constraints below it
+    abbrev pub Former : Branching → List Branching → Label C → Type 0
+    Former b below o = Fits (its-cart b) (map standing below) × (getElem? (offers i (its-cart b) (map standing below)) (b .former) ≡ some o)
+
     -- at a branch: it is dropped, or listed, or branched on
     pub data AtBranch (q : Search C) : Turned C → Type 0 where
       drops : Beaten q → AtBranch q (went 1 (sought q (q .trail) (q .listed)))
@@ -81,8 +89,10 @@ module _ {C : Type 0} (i : Instance C) where
       many-labels-below : NoneNext b below → Exceeds (its-cart b) (map standing below) → AtBranching q b below (stopped labels-exceeded)
       no-former : NoneNext b below → Fits (its-cart b) (map standing below) → length (offers i (its-cart b) (map standing below)) ≤ b .former →
           AtBranching q b below (stopped offer-missing)
-      puts-back : (o : Label C) → NoneNext b below → Fits (its-cart b) (map standing below) → getElem? (offers i (its-cart b) (map standing below)) (b .former) ≡ some o →
-          AtBranching q b below (went 0 (with-offer q seeking (turned-over b (set (q .numbers) (its-cart b) (b .former)) below) (its-cart b) (b .former) o))
+      turns-over : (o : Label C) → NoneNext b below → Former b below o → b .turned ≡ false →
+          AtBranching q b below (went 0 (with-offer q seeking (to-second b (set (q .numbers) (its-cart b) (b .former)) ∷ below) (its-cart b) (b .former) o))
+      ends : (o : Label C) → NoneNext b below → Former b below o → b .turned ≡ true →
+          AtBranching q b below (went 0 (with-offer q seeking below (its-cart b) (b .former) o))
 
     -- seeking with no branching: the labels of every cart are counted, and the next root is taken
     pub data AtRoots (q : Search C) : Turned C → Type 0 where
