@@ -14,7 +14,7 @@ use Rattle.rules.specs.Fronts.{covered}
 use Rattle.rules.specs.Walks.{subject}
 use Rattle.rules.specs.Offers.{Label, label-count}
 use Rattle.rules.specs.Plans.{Conflict}
-use Rattle.rules.specs.Search.{Phase, at-branch, seeking, done, Branching, Search, Limits, standing, branch-cost, Stop, Turned, stopped, went, turn, made, is-done, Ending, budget-spent, search-done, stop, Advance, going, over, after-turn, ended-by-budget, turns-of, advance, list-or-branch, put-back, take-next, seek, turn-in}
+use Rattle.rules.specs.Search.{Phase, at-branch, seeking, done, Branching, Search, Limits, offer-missing, trail-full, standing, branch-cost, Stop, Turned, stopped, went, turn, made, is-done, Ending, budget-spent, search-done, stop, Advance, going, over, after-turn, ended-by-budget, turns-of, advance, list-or-branch, put-back, take-next, seek, turn-in}
 use Rattle.rules.specs.Guarantee.{Reached, at-once, by-turn}
 use Rattle.rules.specs.Advances.{examined-in, Run, no-turn, then-turn, EndsBy, Advanced, InAll, no-advance, then-advance, AdvanceRight, AdvancesRight}
 use Rattle.rules.proofs.RootTurns.{stopped-not-went}
@@ -222,6 +222,10 @@ module _ {C : Type 0} (i : Instance C) (room : Limits) where
             answers-it more q n e why r (record { run = h .run; within = omega (arith, h .within); ends = larger-end budget more n r why unspent le (h .ends) });
         in-all = all-reached;
         bounded = λ sound. let most = guaranteed i sound room .turns-bounded in (most .0, λ budgets n q h. most .1 n q (all-reached budgets n q h));
+        no-offer-missing = λ sound budget m n e q r h a.
+            guaranteed i sound room .no-offer-missing (m + n) r (advance-reached budget m n e (stop offer-missing) q r h a) (answered budget q n e (stop offer-missing) r a .ends .2);
+        trail-suffices = λ sound fits budget m n e q r h a.
+            guaranteed i sound room .trail-suffices fits (m + n) r (advance-reached budget m n e (stop trail-full) q r h a) (answered budget q n e (stop trail-full) r a .ends .2);
       }
 
 pub advances-right : {C : Type 0} → AdvancesRight C

@@ -4,10 +4,10 @@ use mathlib.Core.Path.{_≡_}
 use mathlib.Core.Bool.{false}
 use mathlib.Core.List.{List, [], _∷_}
 use mathlib.Core.Logic.{_↔_}
-use Prim.Native.Nat.{ℕ, suc, _+_, _≤_, _<_}
-use Rattle.rules.specs.Instances.{Instance, Sound}
-use Rattle.rules.specs.Search.{Phase, at-branch, seeking, done, Search, Limits, stopped, went, turn, made, is-done, Ending, budget-spent, search-done, stop, over, advance}
-use Rattle.rules.specs.Guarantee.{Reached}
+use Prim.Native.Nat.{ℕ, suc, _+_, _*_, _≤_, _<_}
+use Rattle.rules.specs.Instances.{Instance, Sound, places, cart-count}
+use Rattle.rules.specs.Search.{Phase, at-branch, seeking, done, Search, Limits, offer-missing, trail-full, stopped, went, turn, made, is-done, Ending, budget-spent, search-done, stop, over, advance}
+use Rattle.rules.specs.Guarantee.{Reached, lanes}
 
 -- a turn at a branch examines that branch, and no other turn examines any
 abbrev pub examined-in : Phase → ℕ
@@ -57,6 +57,10 @@ module _ {C : Type 0} (i : Instance C) (room : Limits) where
     -- whatever the budgets, the turns answered lead where so many turns do; and one number bounds them all
     pub in-all : (budgets : List ℕ) (n : ℕ) (q : Search C) → InAll (made i) budgets n q → Reached i room n q
     pub bounded : Sound i → (most : ℕ) × ((budgets : List ℕ) (n : ℕ) (q : Search C) → InAll (made i) budgets n q → n ≤ most)
+    -- a search that was reached never stops for a missing offer, and never for the trail where it has a row for each cart, tick, and place or lane
+    pub no-offer-missing : Sound i → (budget m n e : ℕ) (q r : Search C) → Reached i room m q → advance i room budget q ≡ over n e (stop offer-missing) r → ⊥
+    pub trail-suffices : Sound i → cart-count i * i .horizon * (places i + lanes 0 (i .moves)) ≤ room .trail →
+        (budget m n e : ℕ) (q r : Search C) → Reached i room m q → advance i room budget q ≡ over n e (stop trail-full) r → ⊥
 
 -- every instance, sound or not, whatever room its tables give
 abbrev pub AdvancesRight : Type 0 → Type 0
