@@ -16,7 +16,7 @@ use Rattle.fronts.proofs.Parts.{drop-later}
 use Rattle.fronts.proofs.Insertions.{length-placed}
 
 module _ {C : Type 0} (k : Kind C) where
-  added-new : (es : List (Entry C ℕ)) (x : Entry C ℕ) → covered k es (x .cost) ≡ false → added k es x ≡ placed k (unbeaten k es (x .cost)) x
+  pub added-new : (es : List (Entry C ℕ)) (x : Entry C ℕ) → covered k es (x .cost) ≡ false → added k es x ≡ placed k (unbeaten k es (x .cost)) x
   added-new es x = cond-false (covered k es (x .cost)) es (placed k (unbeaten k es (x .cost)) x)
 
   -- what is put among those that stay is what is added
@@ -25,6 +25,7 @@ module _ {C : Type 0} (k : Kind C) where
   added-holds xs ys zs len n r new stay put =
       let same : placed k (in-use n ys) (entry-of r) ≡ added k (in-use len xs) (entry-of r) = ap (λ es. placed k es (entry-of r)) (stay .front) ∙ sym (added-new (in-use len xs) (entry-of r) new) in
       record {
+        long = put .long ∙ stay .long;
         count = put .count ∙ ap length same;
         front = put .front ∙ same;
         rest = put .rest ∙ drop-later n (n + 1) xs ys (omega arith) (stay .rest);

@@ -3,3 +3,4 @@ pub mod Stepping
 pub mod Removals
 pub mod Insertions
 pub mod Additions
+pub mod Taking

@@ -48,4 +48,4 @@ module _ {C : Type 0} (k : Kind C) (c : C) where
   removed-holds xs ys len n i h e =
       let front : in-use n ys ≡ unbeaten k (in-use len xs) c = ap entries (h .keeping .front ∙ ap (kept-by unbeaten-row) (take-min len i xs e)) ∙ entries-kept (take len xs) in
       let within : n ≤ length ys = omega (arith, h .keeping .behind, h .keeping .within, h .keeping .long) in
-      record { count = sym (length-take-le n ys within) ∙ sym (length-map (take n ys) entry-of) ∙ ap length front; front = front; rest = h .rest }
+      record { long = h .keeping .long; count = sym (length-take-le n ys within) ∙ sym (length-map (take n ys) entry-of) ∙ ap length front; front = front; rest = h .rest }

@@ -14,8 +14,9 @@ use Rattle.fronts.specs.declared.added.Added.the-variants.{Covered, Listed, No
 use Rattle.fronts.specs.declared.row.Row.{Row}
 use Rattle.fronts.specs.Rows.{in-use}
 
--- the first n rows hold exactly es, and every row behind them is as it was
+-- there are as many rows as there were, the first n hold exactly es, and every row behind them is as it was
 pub record Holds {C : Type 0} (es : List (Entry C ℕ)) (old rows : List (Row C)) (n : ℕ) : Type 0 where
+  pub long : length rows ≡ length old
   pub count : n ≡ length es
   pub front : in-use n rows ≡ es
   pub rest : drop n rows ≡ drop n old

@@ -1,9 +1,9 @@
--- The front of some entries, taken one by one into rows: what the rows hold, and when there are too few.
+-- The front of some rows, taken one by one into other rows: what those hold, and when they are too few.
 -- Assumes nothing.
 use mathlib.Core.Path.{_≡_}
 use mathlib.Core.List.{List, map}
 use Prim.Native.Nat.{ℕ, _+_, _<_, _≤_}
-use lib.ListN.{length, take}
+use lib.ListN.{length, drop}
 use Rattle.std.specs.shelf.Lists.{Has}
 use Rattle.std.specs.declared.option.Option.{Option}
 use Rattle.std.specs.declared.option.Option.the-variants.{Some, None}
@@ -15,24 +15,27 @@ use Rattle.fronts.specs.Rows.{entries, in-use}
 abbrev pub costs-of : {C : Type 0} → List (Entry C ℕ) → List C
 costs-of es = map (λ e. e .cost) es
 
-module _ {C : Type 0} (k : Kind C) (xs : List (Entry C ℕ)) where
-  -- the front of each first part of xs, up to the first i, has at most so many entries
+module _ {C : Type 0} (k : Kind C) (given : List (Row C)) where
+  -- the front of the first j rows has at most so many entries, for each j up to i
   abbrev pub Fits : ℕ → ℕ → Type 0
-  Fits room i = (j : ℕ) → j ≤ i → length (front-of k (take j xs)) ≤ room
+  Fits room i = (j : ℕ) → j ≤ i → length (front-of k (in-use j given)) ≤ room
 
-  -- the first n rows are the front of xs: its undominated costs, each once with its first item, in the kind's order
-  pub record Whole (rows : List (Row C)) (n : ℕ) : Type 0 where
-    pub count : n ≡ length (front-of k xs)
-    pub held : in-use n rows ≡ front-of k xs
-    pub front : Front k (Has (costs-of xs)) (costs-of (in-use n rows))
-    pub fits : Fits (length rows) (length xs)
+  -- the first n rows are the front of all that were given: their undominated costs, each once and with its first tag, in the kind's order;
+  -- every row that the front of no first part reached is as it was
+  pub record Whole (old rows : List (Row C)) (n : ℕ) : Type 0 where
+    pub count : n ≡ length (front-of k (entries given))
+    pub held : in-use n rows ≡ front-of k (entries given)
+    pub front : Front k (Has (costs-of (entries given))) (costs-of (in-use n rows))
+    pub fits : Fits (length rows) (length given)
+    pub rest : (m : ℕ) → Fits m (length given) → drop m rows ≡ drop m old
 
-  -- all rows together hold the front of the first i of xs, and that of one more has no room
+  -- the rows all together are the front of the first i that were given, and the front of one more has no room; there are fewer rows than were given
   pub record Outgrown (rows : List (Row C)) (i : ℕ) : Type 0 where
-    pub held : entries rows ≡ front-of k (take i xs)
+    pub held : entries rows ≡ front-of k (in-use i given)
     pub fits : Fits (length rows) i
-    pub next : length rows < length (front-of k (take (i + 1) xs))
+    pub next : length rows < length (front-of k (in-use (i + 1) given))
+    pub short : length rows < length given
 
-  abbrev pub Fronted : List (Row C) → Option ℕ → Type 0
-  Fronted rows None = (i : ℕ) × Outgrown rows i
-  Fronted rows (Some n) = Whole rows n
+  abbrev pub Fronted : List (Row C) → List (Row C) → Option ℕ → Type 0
+  Fronted old rows None = (i : ℕ) × Outgrown rows i
+  Fronted old rows (Some n) = Whole old rows n

@@ -1,10 +1,4 @@
-ghost use mathlib.Core.Path.{_≡_};
-ghost use mathlib.Core.Bool.{true};
-ghost use Prim.Native.Nat.{ℕ, _≤_};
-ghost use lib.ListN.{length, drop};
-ghost use Rattle.std.specs.Options.{isSome};
-ghost use Rattle.fronts.specs.Rows.{entries};
-ghost use Rattle.fronts.specs.Whole.{Fits, Fronted};
+ghost use Rattle.fronts.specs.Whole.{Fronted};
 use crate::added::Added;
 use crate::list::FrontList;
 use crate::row::Row;
@@ -14,9 +8,7 @@ use costs::CostKind;
 // Where a row finds no row left, the answer is none.
 // Rows behind the front may hold rows that were listed for a time; those that no first part's front reaches are as they were.
 pub fn front_of<C: CostKind>(given: &[Row<C>], rows: &mut [Row<C>]) -> Option<usize>
-    ensures front { λ r. ⌜ Fronted (C·CostKind .kind) (entries (now (given .entry))) (now (rows .exit)) r ⌝ }
-    ensures enough { λ r. ⌜ (length (now (given .entry)) ≤ length (now (rows .entry)) → isSome r ≡ true) ⌝ }
-    ensures rest { λ _. ⌜ ((m : ℕ) → Fits (C·CostKind .kind) (entries (now (given .entry))) m (length (now (given .entry))) → drop m (now (rows .exit)) ≡ drop m (now (rows .entry))) ⌝ }
+    ensures { λ r. ⌜ Fronted (C·CostKind .kind) (now (given .entry)) (now (rows .entry)) (now (rows .exit)) r ⌝ }
 {
     let mut list = FrontList::new(rows);
     for i in 0..given.len() {
