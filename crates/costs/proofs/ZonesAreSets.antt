@@ -1,6 +1,6 @@
 -- That the kind of zones is what it says of the zones: union and subset, zone by zone.
 -- Assumes nothing.
-use mathlib.Core.Path.{_≡_, refl, sym, ap, _∙_}
+use mathlib.Core.Path.{_≡_, sym, ap, _∙_}
 use mathlib.Core.Logic.{_⊎_, inl, inr, ⊎-elim}
 use Prim.Native.Nat.{ℕ, zero, suc, _+_, _/_, _%_, _^_, _<_, max}
 use native.Mathlib.Nat.{pow-suc, zero-div}
@@ -8,9 +8,7 @@ use native.Mathlib.Omega.{arith}
 use lib.Bits.{bitOr, or-shr, or-step, or-lt}
 use Rattle.std.proofs.shelf.Bits.{shr-shr}
 use Rattle.std.proofs.shelf.Tests.{cases-order, eqb-true, eq-eqb}
-use Rattle.rules.specs.Kinds.{AtMost}
-use Rattle.costs.specs.declared.zones.Zones.{Zones}
-use Rattle.costs.specs.ZoneSets.{zones-kind, In, AreSets}
+use Rattle.costs.specs.ZoneSets.{AreSets}
 
 or-low : (a b : ℕ) → bitOr a b % 2 ≡ max (a % 2) (b % 2)
 or-low a b = omega (arith, or-step a b)

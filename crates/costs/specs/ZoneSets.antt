@@ -1,13 +1,12 @@
 -- The cost that is a set of zones, one to each bit of a number: its kind, its text, and what both say of the zones.
 -- Assumes nothing.
 use mathlib.Core.Path.{_≡_}
-use mathlib.Core.Bool.{true}
-use mathlib.Core.List.{List, [], _∷_, _++_}
+use mathlib.Core.List.{List, _∷_, _++_}
 use mathlib.Core.Logic.{_⊎_}
 use mathlib.Core.HLevel.{isProp→PathP}
 use native.Mathlib.Bridge.{le-prop}
 use native.Mathlib.Omega.{arith}
-use Prim.Native.Nat.{ℕ, zero, suc, _+_, _/_, _%_, _<_, _^_}
+use Prim.Native.Nat.{ℕ, _/_, _%_, _<_, _^_}
 use lib.Bits.{bitOr, or-lt}
 use lib.Count.{ones}
 use lib.Dec.{eqb, ltb}
