@@ -40,7 +40,7 @@ cart start goal = record { start = start; goal = goal }
 abbrev pub site : ℕ → List (List Move) → List Cost → List Cart → Instance Cost
 site horizon moves tariff carts = record { kind = cost-kind; moves = moves; tariff = tariff; carts = carts; horizon = horizon }
 
--- a cart on its way to 2, by a rough lane or round by a smooth one that goes through the place where another stands
+-- a cart from 0 to 2, by one rough lane or by two smooth ones through place 1, where another cart stands that can step aside to 3 and back
 abbrev pub two-carts : ℕ → Instance Cost
 two-carts horizon =
     site horizon ((move 2 0 ∷ move 1 1 ∷ []) ∷ (move 2 1 ∷ move 3 1 ∷ []) ∷ [] ∷ (move 1 1 ∷ []) ∷ []) (rough ∷ smooth ∷ []) (cart 0 2 ∷ cart 1 1 ∷ [])
