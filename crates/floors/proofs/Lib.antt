@@ -1,1 +1,2 @@
+mod LaneTables
 mod Tables

@@ -1,3 +1,5 @@
 pub mod Floors
+pub mod Lanes
 pub mod MoveLists
 pub mod MoveTables
+pub mod Refusals
