@@ -1,2 +1,3 @@
+mod Cells
 mod LaneTables
 mod Tables

@@ -1,4 +1,5 @@
 pub mod Floors
+pub mod Grids
 pub mod Lanes
 pub mod MoveLists
 pub mod MoveTables

@@ -1,12 +1,16 @@
 mod floor;
+mod grid_floor;
 mod lane_floor;
 mod lane_row;
 mod move_list;
 mod move_table;
 mod refusal;
+mod side;
 pub mod step;
 
 pub use floor::Floor;
+pub use grid_floor::GridFloor;
+pub use grid_floor::GridFloorFloor;
 pub use lane_floor::LaneFloor;
 pub use lane_floor::LaneFloorFloor;
 pub use lane_row::LaneRow;
