@@ -4,9 +4,11 @@ mod lane_floor;
 mod lane_row;
 mod move_list;
 mod move_table;
-mod refusal;
+pub mod refusal;
 mod side;
 pub mod step;
+#[cfg(test)]
+mod tests;
 
 pub use floor::Floor;
 pub use grid_floor::GridFloor;
