@@ -25,12 +25,12 @@ use Rattle.floors.specs.MoveTables.{extended}
 
 wide : (width height p : ℕ) → p < width * height → 0 < width
 wide width height p h = elim (cases-lt 0 width) [
-    inl lt ↦ lt
+  | inl lt ↦ lt
   | inr le ↦
-    let z : width ≡ 0 = omega arith in
-    let none : width * height ≡ 0 = ap (λ w. w * height) z ∙ zero-mul height in
-    absurd (omega arith)
-  ]
+      let z : width ≡ 0 = omega arith in
+      let none : width * height ≡ 0 = ap (λ w. w * height) z ∙ zero-mul height in
+      absurd (omega arith)
+]
 
 one-more : (y width : ℕ) → (y + 1) * width ≡ y * width + width
 one-more y width = add-mul y 1 width ∙ ap (λ n. y * width + n) (one-mul width)
@@ -127,10 +127,11 @@ filled-none f n moves e =
 pub filled-more : (f : ℕ → List Move) (n : ℕ) (moves moves′ : List (List Move)) (i : ℕ) → i < n → Filled f n moves i → moves′ ≡ extended moves i (f i) → Filled f n moves′ (i + 1)
 filled-more f n moves moves′ i lt h e =
     let here : i < length moves = omega (arith, h .0) in
-    let first : moves′ ≡ set moves i (f i) = e ∙ ap (λ ms. set moves i (ms ++ f i)) (h .2 i (omega arith)) in
-    (ap length first ∙ length-set moves i (f i) ∙ h .0,
-     λ p lt′. ap (λ ms. getD ms p []) first ∙ fill-by-more f moves i [] here (h .1) p lt′,
-     λ p le. ap (λ ms. getD ms p []) first ∙ getD-set-other moves i p (f i) [] (λ same. omega arith) ∙ h .2 p (omega arith))
+    let first : moves′ ≡ set moves i (f i) = e ∙ ap (λ ms. set moves i (ms ++ f i)) (h .2 i (omega arith)) in (
+      ap length first ∙ length-set moves i (f i) ∙ h .0,
+      λ p lt′. ap (λ ms. getD ms p []) first ∙ fill-by-more f moves i [] here (h .1) p lt′,
+      λ p le. ap (λ ms. getD ms p []) first ∙ getD-set-other moves i p (f i) [] (λ same. omega arith) ∙ h .2 p (omega arith),
+    )
 
 pub filled-all : (f : ℕ → List Move) (n : ℕ) (moves : List (List Move)) (i : ℕ) → n ≤ i → Filled f n moves i → moves ≡ map f (counting 0 n)
 filled-all f n moves i le h = fill-by-all f moves n [] (h .0) (λ p lt. h .1 p (omega arith))

@@ -1,26 +1,27 @@
 -- A lane table read row by row: its meaning, its count and its first refusal, one row on.
 -- Assumes nothing.
-use mathlib.Core.Path.{_≡_, refl, sym, ap, subst, _∙_}
+use mathlib.Core.Path.{_≡_, refl, sym, ap, _∙_}
 use mathlib.Core.Bool.{Bool, true, false, cond}
 use mathlib.Core.List.{List, [], _∷_, _++_, map}
 use mathlib.Core.Logic.{inl, inr}
-use mathlib.Core.Option.{Option, none, some}
+use mathlib.Core.Option.{none, some}
 use Prim.Native.Nat.{ℕ, zero, suc, _+_, _<_, _≤_}
 use lib.Dec.{eqb}
-use lib.ListN.{length, getD, set, take, drop, replicate}
+use lib.ListN.{length, getD, take, drop, replicate}
 use native.Mathlib.Omega.{arith}
 use Rattle.std.specs.Iters.{counting}
-use Rattle.std.specs.shelf.Lists.{kept-by, sumBy}
+use Rattle.std.specs.shelf.Lists.{kept-by}
 use Rattle.std.proofs.shelf.Counted.{getD-map-counting, length-map-counting}
 use Rattle.std.proofs.shelf.Elements.{kept-by-append}
-use Rattle.std.proofs.shelf.Lists.{append-nil, at-drop-all, drop-more, ext-getD, getD-read, getD-set-other, getD-set-same, length-push, length-set, length-take-le, map-push, take-all, take-more}
+use Rattle.std.proofs.shelf.Lists.{append-nil, at-drop-all, drop-more, ext-getD, getD-set-other, getD-set-same, length-push, length-set, length-take-le, map-push, take-all, take-more}
 use Rattle.std.proofs.shelf.Sums.{sumBy-cons, sumBy-le, sumBy-set}
 use Rattle.std.proofs.shelf.Tests.{and-parts, cases-eq, cond-false, cond-true, eq-eqb, ltb-true, ne-eqb}
 use Rattle.rules.specs.Instances.{Move}
 use Rattle.floors.specs.declared.lane_row.LaneRow.{LaneRow}
 use Rattle.floors.specs.Floors.{FloorBounds}
-use Rattle.floors.specs.Lanes.{lane-count, lane-fits, lane-moves, lane-refusal, row-move, row-refusal, rows-refusal, size-refusal}
+use Rattle.floors.specs.Lanes.{lane-count, lane-fits, lane-moves, lane-refusal, row-move, row-refusal, rows-refusal}
 use Rattle.floors.specs.MoveTables.{extended}
+use Rattle.floors.specs.Refusals.{size-refusal}
 
 -- how many lanes there are
 
@@ -65,20 +66,20 @@ lanes-more n rows r h =
     let len : length (lane-moves n rows) ≡ n = length-map-counting (moves-from rows) 0 n in
     let len′ : length (lane-moves n (rows ++ r ∷ [])) ≡ n = length-map-counting (moves-from (rows ++ r ∷ [])) 0 n in
     let was : (p : ℕ) → p < n → getD (lane-moves n rows) p [] ≡ moves-from rows p =
-        λ p lt. getD-map-counting (moves-from rows) 0 n p p [] lt (omega arith) in
+    λ p lt. getD-map-counting (moves-from rows) 0 n p p [] lt (omega arith) in
     ext-getD [] (lane-moves n (rows ++ r ∷ [])) (extended (lane-moves n rows) (r .from) (row-move r ∷ []))
     (simp length-set (len′ ∙ sym len))
     (λ p lt.
-      let lt′ : p < n = omega arith in
-      getD-map-counting (moves-from (rows ++ r ∷ [])) 0 n p p [] lt′ (omega arith)
-      ∙ elim (cases-eq p (r .from)) [
-          inl e ↦
-            let lt″ : r .from < length (lane-moves n rows) = omega arith in
-            from-here rows r p e
-            ∙ ap (λ ms. ms ++ row-move r ∷ []) (ap (moves-from rows) e ∙ sym (was (r .from) h))
-            ∙ sym (ap (λ q. getD (extended (lane-moves n rows) (r .from) (row-move r ∷ [])) q []) e ∙ getD-set-same (lane-moves n rows) (r .from) _ [] lt″)
-        | inr ne ↦ from-elsewhere rows r p ne ∙ sym (getD-set-other (lane-moves n rows) (r .from) p _ [] ne ∙ was p lt′)
-        ])
+    let lt′ : p < n = omega arith in
+    getD-map-counting (moves-from (rows ++ r ∷ [])) 0 n p p [] lt′ (omega arith)
+    ∙ elim (cases-eq p (r .from)) [
+      | inl e ↦
+          let lt″ : r .from < length (lane-moves n rows) = omega arith in
+          from-here rows r p e
+          ∙ ap (λ ms. ms ++ row-move r ∷ []) (ap (moves-from rows) e ∙ sym (was (r .from) h))
+          ∙ sym (ap (λ q. getD (extended (lane-moves n rows) (r .from) (row-move r ∷ [])) q []) e ∙ getD-set-same (lane-moves n rows) (r .from) _ [] lt″)
+      | inr ne ↦ from-elsewhere rows r p ne ∙ sym (getD-set-other (lane-moves n rows) (r .from) p _ [] ne ∙ was p lt′)
+    ])
 
 -- what a row that fits names
 
@@ -110,7 +111,7 @@ read-none places rows moves fits e =
     (e ∙ sym (none-from 0 places), ap lane-count e ∙ count-none places, sym (cond-true _ _ _ (passed _ _ fits)))
 
 pub read-all : (places : ℕ) (rows : List LaneRow) (moves : List (List Move)) (i : ℕ) → length rows ≤ i → Read places rows moves i
-  → (none ≡ lane-refusal places rows) × (moves ≡ lane-moves places rows)
+    → (none ≡ lane-refusal places rows) × (moves ≡ lane-moves places rows)
 read-all places rows moves i le h =
     (sym (at-drop-all (rows-refusal places (take i rows)) rows i le) ∙ h .2, h .0 ∙ ap (lane-moves places) (take-all i rows le))
 
@@ -122,9 +123,9 @@ module _ (places : ℕ) (rows : List LaneRow) (moves : List (List Move)) (i : �
   next =
       let le : i ≤ length rows = omega arith in
       let here : rows-refusal places (take i rows) (drop i rows)
-          ≡ cond (lane-fits moves row) (rows-refusal places (take (i + 1) rows) (drop (i + 1) rows)) (some (7, i ∷ [])) =
-          ap (rows-refusal places (take i rows)) (drop-more rows i d lt)
-          ∙ simp (sym (so-far .0), take-more rows i d lt, length-take-le i rows le) in
+      ≡ cond (lane-fits moves row) (rows-refusal places (take (i + 1) rows) (drop (i + 1) rows)) (some (7, i ∷ [])) =
+      ap (rows-refusal places (take i rows)) (drop-more rows i d lt)
+      ∙ simp (sym (so-far .0), take-more rows i d lt, length-take-le i rows le) in
       sym here ∙ so-far .2
 
   -- the row was taken
@@ -133,11 +134,12 @@ module _ (places : ℕ) (rows : List LaneRow) (moves : List (List Move)) (i : �
       let fits = passed _ _ taken in
       let here = fits-from moves row fits in
       let len : length moves ≡ places = ap length (so-far .0) ∙ length-map-counting (moves-from (take i rows)) 0 places in
-      let from : row .from < places = omega arith in
-      (e ∙ ap (λ ms. extended ms (row .from) (row-move row ∷ [])) (so-far .0)
-         ∙ sym (ap (lane-moves places) (take-more rows i d lt) ∙ lanes-more places (take i rows) row from),
-       ap lane-count e ∙ count-extended moves (row .from) (row-move row) here ∙ ap (λ n. n + 1) (so-far .1),
-       sym (cond-true _ _ _ fits) ∙ next)
+      let from : row .from < places = omega arith in (
+        e ∙ ap (λ ms. extended ms (row .from) (row-move row ∷ [])) (so-far .0)
+            ∙ sym (ap (lane-moves places) (take-more rows i d lt) ∙ lanes-more places (take i rows) row from),
+        ap lane-count e ∙ count-extended moves (row .from) (row-move row) here ∙ ap (λ n. n + 1) (so-far .1),
+        sym (cond-true _ _ _ fits) ∙ next,
+      )
 
   -- the row was refused
   pub read-refused : (n : ℕ × List ℕ) → some n ≡ row-refusal moves row → some n ≡ lane-refusal places rows

@@ -21,12 +21,12 @@ shut-bounds moves p b =
       few-places = omega (arith, b .few-places);
       few-moves = all-set (λ ms. length ms ≤ 8) moves p [] (omega arith) (b .few-moves);
       moves-inside =
-        subst (λ n. All (All (λ m. m .to < n)) (set moves p [])) (sym same) (all-set (All (λ m. m .to < length moves)) moves p [] tt (b .moves-inside))
+          subst (λ n. All (All (λ m. m .to < n)) (set moves p [])) (sym same) (all-set (All (λ m. m .to < length moves)) moves p [] tt (b .moves-inside));
     }
 
 -- the shut place has no moves, nor has an absent one
 pub shut-place : (moves : List (List Move)) (p q : ℕ) → q ≡ p → getD (set moves p []) q [] ≡ []
 shut-place moves p q e = elim (cases-lt p (length moves)) [
-    inl lt ↦ rw e (getD-set-same moves p [] [] lt)
+  | inl lt ↦ rw e (getD-set-same moves p [] [] lt)
   | inr ge ↦ getD-past (set moves p []) q [] (omega (arith, length-set moves p []))
-  ]
+]

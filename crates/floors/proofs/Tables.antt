@@ -2,14 +2,13 @@
 -- Assumes nothing.
 use mathlib.Core.Path.{_≡_, refl, sym, ap, _∙_}
 use mathlib.Core.List.{List, [], _∷_, _++_, map}
-use mathlib.Core.Option.{Option, none, some}
+use mathlib.Core.Option.{none, some}
 use Prim.Native.Nat.{ℕ, zero, suc, _+_, _<_, _≤_, zero-le}
 use lib.ListN.{length, take, getD, set, replicate, getElem?}
 use native.Mathlib.Omega.{arith}
 use Rattle.std.specs.shelf.Lists.{All}
 use Rattle.std.proofs.shelf.Lists.{getD-map, getD-past, getD-take, length-map, length-take, length-take-le, map-push, map-set, take-more-set, take-replicate}
 use Rattle.std.proofs.shelf.Elements.{all-getD, all-map, all-set, all-take, all-weaker}
-use Rattle.rules.specs.Instances.{Move}
 use Rattle.floors.specs.declared.move_list.MoveList.{MoveList}
 use Rattle.floors.specs.declared.move_table.MoveTable.{MoveTable}
 use Rattle.floors.specs.declared.step.Step.{Step}
@@ -94,15 +93,15 @@ held-inside n l h = all-map (λ m. m .to < n) move-of (take (l .count) (l .steps
 pub table-bounds : (t : MoveTable) → FloorBounds (table-moves t)
 table-bounds t =
     let steps-inside : All (λ l. All (λ s. s .to < t .places) (l .steps)) (take (t .places) (t .lists)) =
-        all-take _ (t .places) (t .lists) (lists-from (t .places) (t .lists) (t .inside)) in
+    all-take _ (t .places) (t .lists) (lists-from (t .places) (t .lists) (t .inside)) in
     record {
       some-place = rw (table-length t) (t .nonempty);
       few-places = rw (table-length t) (t .few);
       few-moves = all-map (λ ms. length ms ≤ 8) held (take (t .places) (t .lists)) (all-of _ few-held _);
       moves-inside =
-        rw (table-length t)
-        (all-map (All (λ m. m .to < t .places)) held (take (t .places) (t .lists))
-          (all-weaker _ _ (held-inside (t .places)) (take (t .places) (t .lists)) steps-inside))
+          rw (table-length t)
+          (all-map (All (λ m. m .to < t .places)) held (take (t .places) (t .lists))
+          (all-weaker _ _ (held-inside (t .places)) (take (t .places) (t .lists)) steps-inside));
     }
 
 -- a new table: nothing is held, and every step reaches place 0
@@ -154,11 +153,11 @@ push-room t p d from h =
 -- the list l′ is that of place p with the step s after its own
 module _ (t : MoveTable) (p : ℕ) (d l′ : MoveList) (s : Step) (from : p < length (table-moves t)) (steps : l′ .steps ≡ set (getD (t .lists) p d .steps) (getD (t .lists) p d .count) s) where
   pub table-push : length (getD (table-moves t) p []) < 8 → l′ .count ≡ getD (t .lists) p d .count + 1
-    → map held (take (t .places) (set (t .lists) p l′)) ≡ extended (table-moves t) p (move-of s ∷ [])
+      → map held (take (t .places) (set (t .lists) p l′)) ≡ extended (table-moves t) p (move-of s ∷ [])
   table-push h n =
       let lt : p < t .places = omega (arith, table-length t) in
       let here : held l′ ≡ getD (table-moves t) p [] ++ move-of s ∷ [] =
-          held-push (getD (t .lists) p d) l′ s (push-room t p d from h) n steps ∙ ap (λ ms. ms ++ move-of s ∷ []) (sym (table-at t p d lt)) in
+      held-push (getD (t .lists) p d) l′ s (push-room t p d from h) n steps ∙ ap (λ ms. ms ++ move-of s ∷ []) (sym (table-at t p d lt)) in
       ap (map held) (take-of-set (t .places) (t .lists) p l′) ∙ map-set held (take (t .places) (t .lists)) p l′
       ∙ ap (set (table-moves t) p) here
 

@@ -18,13 +18,20 @@ mod shut;
 
 #[test]
 fn a_place_has_eight_moves() -> Result<(), Fail> {
-    let row = LaneRow { from: 0, to: 1, line: 300 };
+    let row = LaneRow {
+        from: 0,
+        to: 1,
+        line: 300,
+    };
     let floor = LaneFloor::new(2, &[row; 8])?;
     check_eq(floor.move_count(0), 8)?;
     check_eq(floor.move_count(1), 0)?;
     check_eq(floor.step(0, 7), Some(Step { to: 1, line: 300 }))?;
     check_eq(floor.step(0, 8), None)?;
-    check_eq(LaneFloor::new(2, &[row; 9]).err(), Some(FloorRefusal::BadRow(8)))
+    check_eq(
+        LaneFloor::new(2, &[row; 9]).err(),
+        Some(FloorRefusal::BadRow(8)),
+    )
 }
 
 #[test]
@@ -32,8 +39,14 @@ fn a_floor_has_1_to_128_places() -> Result<(), Fail> {
     check_eq(LaneFloor::empty(0).err(), Some(FloorRefusal::BadSize))?;
     check_eq(LaneFloor::empty(128)?.places(), 128)?;
     check_eq(LaneFloor::empty(129).err(), Some(FloorRefusal::BadSize))?;
-    check_eq(GridFloor::new(3, 2, &[0; 5]).err(), Some(FloorRefusal::BadSize))?;
-    check_eq(GridFloor::new(1 << 63, 2, &[]).err(), Some(FloorRefusal::BadSize))
+    check_eq(
+        GridFloor::new(3, 2, &[0; 5]).err(),
+        Some(FloorRefusal::BadSize),
+    )?;
+    check_eq(
+        GridFloor::new(1 << 63, 2, &[]).err(),
+        Some(FloorRefusal::BadSize),
+    )
 }
 
 #[test]
@@ -44,7 +57,10 @@ fn a_cell_has_open_neighbours() -> Result<(), Fail> {
     check_eq(floor.step(4, 0), Some(Step { to: 3, line: 4 }))?;
     check_eq(floor.step(4, 1), Some(Step { to: 5, line: 6 }))?;
     check_eq(floor.step(4, 2), Some(Step { to: 4, line: 5 }))?;
-    let shut = Shut { below: floor, place: 4 };
+    let shut = Shut {
+        below: floor,
+        place: 4,
+    };
     check_eq(shut.move_count(4), 0)?;
     check_eq(shut.step(5, 0), Some(Step { to: 2, line: 9 }))
 }

@@ -1,4 +1,4 @@
-use mathlib.Core.Path.{_≡_, ap, _∙_}
+use mathlib.Core.Path.{ap, _∙_}
 use mathlib.Core.List.{[]}
 use Prim.Native.Nat.{_*_, _<_, _≤_}
 use lib.ListN.{length, replicate}
@@ -29,7 +29,7 @@ add-cell-requires c κs =
       place = omega arith;
       places = c .loop-place .inv .0;
       cells = c .if-cells-places .left ∙ size;
-      room = omega arith
+      room = omega arith;
     }
 
 pub returns : need.returns
@@ -38,5 +38,5 @@ returns c =
     let end : c .args .width * c .args .height ≤ c .loop-place .place = omega arith in
     record {
       refusal = grind (arith, tells);
-      moves = filled-all (cell-moves (c .args .width) (c .args .height) (c .args .cells .now)) (c .args .width * c .args .height) (table-moves (c .loop-place .table)) (c .loop-place .place) end (c .loop-place .inv)
+      moves = filled-all (cell-moves (c .args .width) (c .args .height) (c .args .cells .now)) (c .args .width * c .args .height) (table-moves (c .loop-place .table)) (c .loop-place .place) end (c .loop-place .inv);
     }

@@ -22,7 +22,7 @@ pub returns-in-Break-add-lane : need.returns-in-Break-add-lane
 returns-in-Break-add-lane c =
     let p = err-from-errBy (c .from-residual-in-Break-add-lane .result) (c .from-residual-in-Break-add-lane .ensures .1) in
     let first = read-refused (c .args .places) (c .args .rows .now) (table-moves (c .loop-row .floor .table)) (c .loop-row .row-index) blank
-        (c .loop-row-test .taken) (c .loop-row .inv) _ (c .in-Break-add-lane .ensures tt .refusal) in
+    (c .loop-row-test .taken) (c .loop-row .inv) _ (c .in-Break-add-lane .ensures tt .refusal) in
     rw (p .1, p .2) (record { refusal = first; moves = tt })
 
 pub returns : need.returns
