@@ -40,15 +40,15 @@ count-few moves b = let few = sumBy-le length 8 moves (b .few-moves) in omega ar
 
 -- what a table means
 
-none-from : (a n : ℕ) → map (λ p. map row-move (kept-by (λ r. eqb (r .from) p) [])) (counting a n) ≡ replicate n []
-none-from a zero = refl
-none-from a (suc n) = ap (λ ms. [] ∷ ms) (none-from (a + 1) n)
-
 abbrev rows-from : List LaneRow → ℕ → List LaneRow
 rows-from rows p = kept-by (λ r. eqb (r .from) p) rows
 
 abbrev moves-from : List LaneRow → ℕ → List Move
 moves-from rows p = map row-move (rows-from rows p)
+
+none-from : (a n : ℕ) → map (moves-from []) (counting a n) ≡ replicate n []
+none-from a zero = refl
+none-from a (suc n) = ap (λ ms. [] ∷ ms) (none-from (a + 1) n)
 
 from-here : (rows : List LaneRow) (r : LaneRow) (p : ℕ) → p ≡ r .from → moves-from (rows ++ r ∷ []) p ≡ moves-from rows p ++ row-move r ∷ []
 from-here rows r p e =

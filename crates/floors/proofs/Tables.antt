@@ -17,7 +17,7 @@ use Rattle.floors.specs.MoveLists.{held, reached}
 use Rattle.floors.specs.MoveTables.{extended, table-moves}
 
 -- what stands at a place of a list, and past its end
-pub at-read : {X : Type 0} (xs : List X) (k : ℕ) (d : X) → k < length xs → getElem? xs k ≡ some (getD xs k d)
+at-read : {X : Type 0} (xs : List X) (k : ℕ) (d : X) → k < length xs → getElem? xs k ≡ some (getD xs k d)
 at-read [] k d h = absurd (omega arith)
 at-read (x ∷ xs) zero d h = refl
 at-read (x ∷ xs) (suc k) d h = at-read xs k d (omega arith)
@@ -29,7 +29,7 @@ at-past (x ∷ xs) (suc k) h = at-past xs k (omega arith)
 
 -- one list
 
-pub held-length : (l : MoveList) → length (held l) ≡ l .count
+held-length : (l : MoveList) → length (held l) ≡ l .count
 held-length l =
     let le : l .count ≤ length (l .steps) = omega arith in
     length-map (take (l .count) (l .steps)) move-of ∙ length-take-le (l .count) (l .steps) le
@@ -83,7 +83,7 @@ count-at t p d h = ap length (table-at t p d h) ∙ held-length (getD (t .lists)
 few-held : (l : MoveList) → length (held l) ≤ 8
 few-held l = omega (arith, held-length l)
 
-pub all-of : {X : Type 0} (P : X → Type 0) → ((x : X) → P x) → (xs : List X) → All P xs
+all-of : {X : Type 0} (P : X → Type 0) → ((x : X) → P x) → (xs : List X) → All P xs
 all-of P h [] = tt
 all-of P h (x ∷ xs) = (h x, all-of P h xs)
 
@@ -132,7 +132,7 @@ new-moves n l le z =
 
 -- one move more
 
-pub held-push : (l l′ : MoveList) (s : Step) → l .count < 8 → l′ .count ≡ l .count + 1 → l′ .steps ≡ set (l .steps) (l .count) s → held l′ ≡ held l ++ move-of s ∷ []
+held-push : (l l′ : MoveList) (s : Step) → l .count < 8 → l′ .count ≡ l .count + 1 → l′ .steps ≡ set (l .steps) (l .count) s → held l′ ≡ held l ++ move-of s ∷ []
 held-push l l′ s h n e =
     let lt : l .count < length (l .steps) = omega arith in
     let both : take (l′ .count) (l′ .steps) ≡ take (l .count) (l .steps) ++ s ∷ [] = rw (n, e) (take-more-set (l .steps) (l .count) s lt) in
