@@ -91,7 +91,7 @@ outcome-of (over n e w q) = ends n e w (map read (q .listed))
 
 -- what a budget of 1,000 turns comes to
 abbrev pub outcome : Instance Cost → Limits → Outcome
-outcome i r = outcome-of (advance i r 1000 (made i r))
+outcome i r = outcome-of (advance i r 1000 (made i))
 
 pub record Worked (i : Instance Cost) (r : Limits) (o : Outcome) : Type 0 where
   pub so-ends : outcome i r ≡ o
