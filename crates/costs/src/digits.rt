@@ -6,7 +6,7 @@ ghost use Rattle.std.specs.Written.{decimal};
 ghost use Rattle.costs.specs.Texts.{Long, Wrote, hex-digit, hex-digits};
 
 // How many digits `n` has in base ten.
-pub fn decimal_len(n: u64) -> usize
+pub(crate) fn decimal_len(n: u64) -> usize
     ensures value { λ r. ⌜ r ≡ length (decimal n) ⌝ }
     ensures bound { λ r. ⌜ r ≤ 20 ⌝ }
 {
@@ -14,7 +14,7 @@ pub fn decimal_len(n: u64) -> usize
 }
 
 // How many digits `n` has in base ten, if no more than `room`.
-pub fn decimal_len_within(n: u64, room: usize) -> Option<usize>
+pub(crate) fn decimal_len_within(n: u64, room: usize) -> Option<usize>
     ensures { λ r. ⌜ Long (decimal n) room r ⌝ }
 {
     let len = decimal_len(n);
@@ -22,7 +22,7 @@ pub fn decimal_len_within(n: u64, room: usize) -> Option<usize>
 }
 
 // Writes the digits of `n` in base ten at the front of `out`, and says how many.
-pub fn put_decimal(n: u64, out: &mut [u8]) -> usize
+pub(crate) fn put_decimal(n: u64, out: &mut [u8]) -> usize
     requires { ⌜ length (decimal n) ≤ length (now out) ⌝ }
     ensures len { λ r. ⌜ r ≡ length (decimal n) ⌝ }
     ensures bytes { λ _. ⌜ now (out .exit) ≡ decimal n ++ drop (length (decimal n)) (now (out .entry)) ⌝ }
@@ -38,7 +38,7 @@ pub fn put_decimal(n: u64, out: &mut [u8]) -> usize
 }
 
 // The same where they fit; else writes nothing.
-pub fn write_decimal(n: u64, out: &mut [u8]) -> Option<usize>
+pub(crate) fn write_decimal(n: u64, out: &mut [u8]) -> Option<usize>
     ensures { λ r. ⌜ Wrote (decimal n) (now (out .entry)) (now (out .exit)) r ⌝ }
 {
     if decimal_len(n) <= out.len() {
@@ -56,7 +56,7 @@ fn hex_digit(d: u8) -> u8
 }
 
 // Writes the last `k` digits of `n`, to the base 16, at the front of `out`.
-pub fn put_hex_digits(k: usize, n: u64, out: &mut [u8])
+pub(crate) fn put_hex_digits(k: usize, n: u64, out: &mut [u8])
     requires { ⌜ k ≤ length (now out) ⌝ }
     ensures { λ _. ⌜ now (out .exit) ≡ hex-digits k n ++ drop k (now (out .entry)) ⌝ }
 {

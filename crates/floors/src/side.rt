@@ -15,7 +15,7 @@ pub enum Side {
 
 impl Side {
     // The cell on this side of a place, or none over the edge.
-    pub fn of(self, width: usize, height: usize, place: usize) -> Option<usize>
+    pub(crate) fn of(self, width: usize, height: usize, place: usize) -> Option<usize>
         requires place { ⌜ place < width * height ⌝ }
         requires few { ⌜ width * height ≤ 128 ⌝ }
         ensures cell { λ r. ⌜ r ≡ neighbour width height (place % width) (place / width) self ⌝ }

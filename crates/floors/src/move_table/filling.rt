@@ -10,7 +10,7 @@ use crate::step::Step;
 
 impl MoveTable {
     // A table of this many places, none with a move.
-    pub fn empty(places: u8) -> MoveTable
+    pub(crate) fn empty(places: u8) -> MoveTable
         requires { ⌜ 1 ≤ places ⌝ ∗ ⌜ places ≤ 128 ⌝ }
         ensures { λ r. ⌜ table-moves r ≡ replicate places [] ⌝ }
     {
@@ -26,7 +26,7 @@ impl MoveTable {
     }
 
     // One more move of a place, after those that it has.
-    pub fn push(&mut self, place: u8, step: Step)
+    pub(crate) fn push(&mut self, place: u8, step: Step)
         requires from { ⌜ place < length (table-moves (now self)) ⌝ }
         requires to { ⌜ step .to < length (table-moves (now self)) ⌝ }
         requires room { ⌜ length (getD (table-moves (now self)) place []) < 8 ⌝ }
