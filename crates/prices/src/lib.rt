@@ -1,0 +1,4 @@
+mod numbers;
+
+pub use numbers::ReadFault;
+pub use numbers::read_number;
