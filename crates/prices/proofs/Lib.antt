@@ -1,1 +1,2 @@
 pub mod NumberReads
+pub mod Saying

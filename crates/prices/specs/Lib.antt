@@ -1,1 +1,4 @@
 pub mod Numbers
+pub mod Splits
+pub mod Lines
+pub mod PriceLists

@@ -1,4 +1,16 @@
+mod bytes;
 mod numbers;
+mod priced;
+mod reading;
+mod refusal;
 
+pub use bytes::split_once;
 pub use numbers::ReadFault;
 pub use numbers::read_number;
+pub use priced::Priced;
+pub use reading::read_list;
+pub use refusal::Fault;
+pub use refusal::Refusal;
+pub use refusal::Stop;
+pub use refusal::StopFromAlloc;
+pub use refusal::StopFromRefused;

@@ -1,0 +1,45 @@
+-- Price lists: the bytes that say a list of costs, and where other bytes go wrong.
+-- Assumes nothing.
+use mathlib.Core.Path.{_≡_}
+use mathlib.Core.List.{List, [], _∷_, _++_}
+use Prim.Native.Nat.{ℕ, _+_, _<_}
+use lib.ListN.{length}
+use Rattle.std.specs.Of.Vec.{vec-items}
+use Rattle.std.specs.declared.alloc.Global.{Global}
+use Rattle.std.specs.declared.vec.Vec.{Vec}
+use Rattle.std.specs.declared.result.Result.{Result}
+use Rattle.std.specs.declared.result.Result.the-variants.{Ok, Err}
+use Rattle.prices.specs.declared.refusal.Fault.{Fault}
+use Rattle.prices.specs.declared.refusal.Fault.the-variants.{Line, NoNewline, TooManyBytes, UnknownList}
+use Rattle.prices.specs.declared.refusal.Refusal.{Refusal}
+use Rattle.prices.specs.declared.refusal.Stop.{Stop}
+use Rattle.prices.specs.declared.refusal.Stop.the-variants.{Memory, Refused}
+use Rattle.prices.specs.Splits.{Without}
+use Rattle.prices.specs.Lines.{LineRead}
+
+-- each cost on a line of its own
+abbrev pub said : {C : Type 0} → (C → List ℕ) → List C → List ℕ
+said line [] = []
+said line (c ∷ cs) = line c ++ (10 ∷ said line cs)
+
+module _ {C : Type 0} (line : C → List ℕ) (Large : List ℕ → Type 0) where
+  -- the bytes begin with a line that says no cost, or have bytes and no newline
+  abbrev pub BeginsWrong : Fault → List ℕ → Type 0
+  BeginsWrong (Line fault) bs = (l : List ℕ) × (rest : List ℕ) × (bs ≡ l ++ (10 ∷ rest)) × Without 10 l × LineRead line Large l (Err fault)
+  BeginsWrong NoNewline bs = (0 < length bs) × Without 10 bs
+  BeginsWrong TooManyBytes bs = ⊥
+  BeginsWrong UnknownList bs = ⊥
+
+  -- the lines above this one say costs, and the bytes from this one on begin wrong
+  pub record WrongAt (bs : List ℕ) (refusal : Refusal) : Type 0 where
+    pub above : List C
+    pub from : List ℕ
+    pub parts : bs ≡ said line above ++ from
+    pub number : refusal .line ≡ length above + 1
+    pub wrong : BeginsWrong (refusal .fault) from
+
+  -- what reading a list says: the costs that it says, or where it goes wrong; memory may be wanting at any time
+  abbrev pub ListRead : List ℕ → Result (Vec C Global) Stop → Type 0
+  ListRead bs (Ok v) = bs ≡ said line (vec-items v)
+  ListRead bs (Err (Refused refusal)) = WrongAt bs refusal
+  ListRead bs (Err Memory) = Unit {0}
