@@ -2,3 +2,4 @@ pub mod Numbers
 pub mod Splits
 pub mod Lines
 pub mod PriceLists
+pub mod ZoneLines

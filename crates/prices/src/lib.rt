@@ -3,6 +3,7 @@ mod numbers;
 mod priced;
 mod reading;
 mod refusal;
+mod zone_lines;
 
 pub use bytes::split_once;
 pub use numbers::ReadFault;
@@ -14,3 +15,4 @@ pub use refusal::Refusal;
 pub use refusal::Stop;
 pub use refusal::StopFromAlloc;
 pub use refusal::StopFromRefused;
+pub use zone_lines::ZonesPriced;
