@@ -1,3 +1,4 @@
 pub mod NumberReads
 pub mod Saying
 pub mod ZoneReads
+pub mod CostReads

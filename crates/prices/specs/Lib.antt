@@ -3,3 +3,4 @@ pub mod Splits
 pub mod Lines
 pub mod PriceLists
 pub mod ZoneLines
+pub mod CostLines

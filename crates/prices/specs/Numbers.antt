@@ -21,3 +21,12 @@ abbrev pub NumberRead : ℕ → List ℕ → Result ℕ ReadFault → Type 0
 NumberRead most bs (Ok n) = (bs ≡ decimal n) × (n ≤ most)
 NumberRead most bs (Err TooLarge) = BaseTen bs × (most < value 10 bs)
 NumberRead most bs (Err Malformed) = BaseTen bs → ⊥
+
+-- both numbers; that one is none comes before that one is too large
+abbrev pub both-read : Result ℕ ReadFault → Result ℕ ReadFault → Result (ℕ × ℕ) ReadFault
+both-read (Ok m) (Ok n) = Ok (m, n)
+both-read (Ok m) (Err fault) = Err fault
+both-read (Err fault) (Ok n) = Err fault
+both-read (Err TooLarge) (Err TooLarge) = Err TooLarge
+both-read (Err TooLarge) (Err Malformed) = Err Malformed
+both-read (Err Malformed) (Err fault) = Err Malformed

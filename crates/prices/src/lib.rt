@@ -1,4 +1,5 @@
 mod bytes;
+mod cost_lines;
 mod numbers;
 mod priced;
 mod reading;
@@ -6,6 +7,7 @@ mod refusal;
 mod zone_lines;
 
 pub use bytes::split_once;
+pub use cost_lines::CostsPriced;
 pub use numbers::ReadFault;
 pub use numbers::read_number;
 pub use priced::Priced;
