@@ -1,7 +1,7 @@
 ghost use Rattle.costs.specs.ZoneSets.{zones-kind, zones-text};
+use crate::digits::decimal_len;
 use crate::digits::put_decimal;
 use crate::digits::put_hex_digits;
-use crate::digits::decimal_len;
 use crate::kind::CostKind;
 use crate::text::Text;
 use crate::zones::Zones;

@@ -1,3 +1,6 @@
+pub mod Parts
 pub mod Stepping
 pub mod Removals
 pub mod Insertions
+pub mod Additions
+pub mod Taking

@@ -36,6 +36,9 @@ pub returns : need.returns
 returns c =
     let z = c .args .self .now .bits in
     let fits = c .in-Some .ensures tt in
-    let room : length (zones-text (c .args .self .now)) ≤ length (c .args .out .now) = omega arith in
-    (fits .0, room, put-parts (decimal (ones z)) (hex-digits 16 z) (c .args .out .now) (c .put-decimal-stroke .last .out) (c .put-hex-digits .last .out) (c .put-decimal-stroke .result) 47 16
-        (c .put-decimal-stroke .ensures .len) (sym (length-hex-digits 16 z)) room (c .put-decimal-stroke .ensures .bytes) (c .put-hex-digits .ensures))
+    let room : length (zones-text (c .args .self .now)) ≤ length (c .args .out .now) = omega arith in (
+      fits .0,
+      room,
+      put-parts (decimal (ones z)) (hex-digits 16 z) (c .args .out .now) (c .put-decimal-stroke .last .out) (c .put-hex-digits .last .out) (c .put-decimal-stroke .result) 47 16
+          (c .put-decimal-stroke .ensures .len) (sym (length-hex-digits 16 z)) room (c .put-decimal-stroke .ensures .bytes) (c .put-hex-digits .ensures),
+    )
