@@ -8,7 +8,7 @@ use Rattle.std.proofs.shelf.Lists.{append-nil, length-append, nil-from-length}
 use Rattle.prices.specs.PriceLists.{said}
 
 module _ {C : Type 0} (line : C → List ℕ) where
-  said-push : (cs : List C) (c : C) (rest : List ℕ) → said line cs ++ (line c ++ (10 ∷ rest)) ≡ said line (cs ++ (c ∷ [])) ++ rest
+  pub said-push : (cs : List C) (c : C) (rest : List ℕ) → said line cs ++ (line c ++ (10 ∷ rest)) ≡ said line (cs ++ (c ∷ [])) ++ rest
   said-push [] c rest = sym (append-assoc (line c) (10 ∷ []) rest)
   said-push (d ∷ cs) c rest =
       append-assoc (line d) (10 ∷ said line cs) (line c ++ (10 ∷ rest)) ∙

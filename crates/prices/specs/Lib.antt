@@ -4,3 +4,4 @@ pub mod Lines
 pub mod PriceLists
 pub mod ZoneLines
 pub mod CostLines
+pub mod Pages

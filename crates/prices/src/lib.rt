@@ -1,6 +1,7 @@
 mod bytes;
 mod cost_lines;
 mod numbers;
+mod page;
 mod priced;
 mod reading;
 mod refusal;
@@ -10,6 +11,7 @@ pub use bytes::split_once;
 pub use cost_lines::CostsPriced;
 pub use numbers::ReadFault;
 pub use numbers::read_number;
+pub use page::write_page;
 pub use priced::Priced;
 pub use reading::read_list;
 pub use refusal::Fault;
