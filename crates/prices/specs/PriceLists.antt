@@ -9,6 +9,9 @@ use Rattle.std.specs.declared.alloc.Global.{Global}
 use Rattle.std.specs.declared.vec.Vec.{Vec}
 use Rattle.std.specs.declared.result.Result.{Result}
 use Rattle.std.specs.declared.result.Result.the-variants.{Ok, Err}
+use Rattle.fronts.specs.Rows.{entries}
+use Rattle.fronts.specs.Whole.{costs-of}
+use Rattle.fronts.specs.declared.row.Row.{Row}
 use Rattle.prices.specs.declared.refusal.Fault.{Fault}
 use Rattle.prices.specs.declared.refusal.Fault.the-variants.{Line, NoNewline, TooManyBytes, UnknownList}
 use Rattle.prices.specs.declared.refusal.Refusal.{Refusal}
@@ -21,6 +24,10 @@ use Rattle.prices.specs.Lines.{LineRead}
 abbrev pub said : {C : Type 0} → (C → List ℕ) → List C → List ℕ
 said line [] = []
 said line (c ∷ cs) = line c ++ (10 ∷ said line cs)
+
+-- the costs in some rows
+abbrev pub costs-in : {C : Type 0} → Vec (Row C) Global → List C
+costs-in v = costs-of (entries (vec-items v))
 
 module _ {C : Type 0} (line : C → List ℕ) (Large : List ℕ → Type 0) where
   -- the bytes begin with a line that says no cost, or have bytes and no newline
@@ -39,7 +46,7 @@ module _ {C : Type 0} (line : C → List ℕ) (Large : List ℕ → Type 0) wher
     pub wrong : BeginsWrong (refusal .fault) from
 
   -- what reading a list says: the costs that it says, or where it goes wrong; memory may be wanting at any time
-  abbrev pub ListRead : List ℕ → Result (Vec C Global) Stop → Type 0
-  ListRead bs (Ok v) = bs ≡ said line (vec-items v)
+  abbrev pub ListRead : List ℕ → Result (Vec (Row C) Global) Stop → Type 0
+  ListRead bs (Ok v) = bs ≡ said line (costs-in v)
   ListRead bs (Err (Refused refusal)) = WrongAt bs refusal
   ListRead bs (Err Memory) = Unit {0}
