@@ -4,8 +4,13 @@ use mathlib.Core.List.{List, [], _∷_, _++_, append-assoc}
 use Prim.Native.Nat.{ℕ, _+_, _<_}
 use native.Mathlib.Omega.{arith}
 use lib.ListN.{length}
-use Rattle.std.proofs.shelf.Lists.{append-nil, length-append, nil-from-length}
-use Rattle.prices.specs.PriceLists.{said}
+use Rattle.std.specs.Of.Vec.{vec-len, vec-items}
+use Rattle.std.specs.declared.alloc.Global.{Global}
+use Rattle.std.specs.declared.vec.Vec.{Vec}
+use Rattle.std.proofs.shelf.Lists.{append-nil, length-append, length-map, nil-from-length}
+use Rattle.fronts.specs.Rows.{entry-of, entries}
+use Rattle.fronts.specs.declared.row.Row.{Row}
+use Rattle.prices.specs.PriceLists.{said, costs-in}
 
 module _ {C : Type 0} (line : C → List ℕ) where
   pub said-push : (cs : List C) (c : C) (rest : List ℕ) → said line cs ++ (line c ++ (10 ∷ rest)) ≡ said line (cs ++ (c ∷ [])) ++ rest
@@ -26,3 +31,7 @@ module _ {C : Type 0} (line : C → List ℕ) where
 
 pub shorter : (bytes below : List ℕ) → length below < length (bytes ++ (10 ∷ below))
 shorter bytes below = omega (arith, length-append bytes (10 ∷ below))
+
+-- rows are as many as their costs
+pub counted : {C : Type 0} (v : Vec (Row C) Global) → vec-len v ≡ length (costs-in v)
+counted v = v .ok .0 ∙ sym (length-map (entries (vec-items v)) (λ e. e .cost) ∙ length-map (vec-items v) entry-of)

@@ -5,3 +5,5 @@ pub mod PriceLists
 pub mod ZoneLines
 pub mod CostLines
 pub mod Pages
+pub mod Refusals
+pub mod Answers

@@ -1,22 +1,21 @@
+mod answer;
 mod bytes;
 mod cost_lines;
+mod making;
 mod numbers;
 mod page;
 mod priced;
 mod reading;
 mod refusal;
+mod refusal_text;
 mod zone_lines;
 
+pub use answer::Answer;
 pub use bytes::split_once;
 pub use cost_lines::CostsPriced;
+pub use making::MOST_BYTES;
+pub use making::answer_list;
 pub use numbers::ReadFault;
 pub use numbers::read_number;
-pub use page::write_page;
 pub use priced::Priced;
-pub use reading::read_list;
-pub use refusal::Fault;
-pub use refusal::Refusal;
-pub use refusal::Stop;
-pub use refusal::StopFromAlloc;
-pub use refusal::StopFromRefused;
 pub use zone_lines::ZonesPriced;

@@ -8,14 +8,12 @@ use lib.Dec.{eqb}
 use lib.ListN.{length}
 use Rattle.std.specs.Of.Vec.{vec-len, vec-items}
 use Rattle.std.proofs.shelf.Tests.{eqb-true, eqb-false}
-use Rattle.std.specs.declared.alloc.Global.{Global}
-use Rattle.std.specs.declared.vec.Vec.{Vec}
-use Rattle.std.proofs.shelf.Lists.{length-map, map-push}
+use Rattle.std.proofs.shelf.Lists.{map-push}
 use Rattle.fronts.specs.Rows.{entry-of, entries}
 use Rattle.fronts.specs.Whole.{costs-of}
 use Rattle.fronts.specs.declared.row.Row.{Row}
 use Rattle.prices.specs.PriceLists.{costs-in}
-use Rattle.prices.proofs.Saying.{said-more, said-all, shorter}
+use Rattle.prices.proofs.Saying.{said-more, said-all, shorter, counted}
 use Rattle.prices.proofs.reading.read_list.Needs as need
 
 shrinks : (rest bytes below : List ℕ) → rest ≡ bytes ++ (10 ∷ below) → length below < length rest
@@ -23,9 +21,6 @@ shrinks rest bytes below e = omega (arith, shorter bytes below, ap length e)
 
 row-pushed : {C : Type 0} (was now : List (Row C)) (row : Row C) → now ≡ was ++ (row ∷ []) → costs-of (entries now) ≡ costs-of (entries was) ++ (row .cost ∷ [])
 row-pushed was now row e = ap (λ rs. costs-of (entries rs)) e ∙ ap costs-of (map-push entry-of was row) ∙ map-push (λ e. e .cost) (entries was) (entry-of row)
-
-counted : {C : Type 0} (v : Vec (Row C) Global) → vec-len v ≡ length (costs-in v)
-counted v = v .ok .0 ∙ sym (length-map (entries (vec-items v)) (λ e. e .cost) ∙ length-map (vec-items v) entry-of)
 
 some-left : (rest : List ℕ) → false ≡ eqb (length rest) 0 → 0 < length rest
 some-left rest e = let h = eqb-false (length rest) 0 (sym e) in omega arith
