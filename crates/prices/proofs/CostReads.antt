@@ -25,6 +25,7 @@ use Rattle.prices.specs.Numbers.{BaseTen, NumberRead, both-read}
 use Rattle.prices.specs.Splits.{Without}
 use Rattle.prices.specs.Lines.{Lines, LineRead}
 use Rattle.prices.specs.CostLines.{cost-line, CostLarge}
+use Rattle.prices.proofs.Saying.{not-within}
 use Rattle.prices.proofs.NumberReads.{digits-own, decimal-base-ten}
 
 -- digits have no space and no newline among them
@@ -73,10 +74,6 @@ cost-lines =
     }
 
 -- bytes with no space are no line of costs
-not-within : (mark : ℕ) (l r : List ℕ) → Without mark (l ++ (mark ∷ r)) → ⊥
-not-within mark [] r h = h .0 refl
-not-within mark (b ∷ l) r h = not-within mark l r (h .1)
-
 pub no-space : (bs : List ℕ) → Without 32 bs → LineRead cost-line CostLarge bs (Err Malformed)
 no-space bs h =
     (λ c e. not-within 32 (decimal (c .first .value)) (decimal (c .second .value)) (subst (Without 32) e h),

@@ -2,3 +2,5 @@ pub mod NumberReads
 pub mod Saying
 pub mod ZoneReads
 pub mod CostReads
+pub mod OneFront
+pub mod OnePrints

@@ -10,6 +10,7 @@ use Rattle.std.specs.declared.vec.Vec.{Vec}
 use Rattle.std.proofs.shelf.Lists.{append-nil, length-append, length-map, nil-from-length}
 use Rattle.fronts.specs.Rows.{entry-of, entries}
 use Rattle.fronts.specs.declared.row.Row.{Row}
+use Rattle.prices.specs.Splits.{Without}
 use Rattle.prices.specs.PriceLists.{said, costs-in}
 
 module _ {C : Type 0} (line : C → List ℕ) where
@@ -35,3 +36,8 @@ shorter bytes below = omega (arith, length-append bytes (10 ∷ below))
 -- rows are as many as their costs
 pub counted : {C : Type 0} (v : Vec (Row C) Global) → vec-len v ≡ length (costs-in v)
 counted v = v .ok .0 ∙ sym (length-map (entries (vec-items v)) (λ e. e .cost) ∙ length-map (vec-items v) entry-of)
+
+-- what has no mark has none in the middle
+pub not-within : (mark : ℕ) (l r : List ℕ) → Without mark (l ++ (mark ∷ r)) → ⊥
+not-within mark [] r h = h .0 refl
+not-within mark (b ∷ l) r h = not-within mark l r (h .1)

@@ -7,3 +7,4 @@ pub mod CostLines
 pub mod Pages
 pub mod Refusals
 pub mod Answers
+pub mod Printed

@@ -45,6 +45,12 @@ module _ {C : Type 0} (line : C → List ℕ) (Large : List ℕ → Type 0) wher
     pub number : refusal .line ≡ length above + 1
     pub wrong : BeginsWrong (refusal .fault) from
 
+  -- bytes say at most one list; where they say one they go wrong nowhere; and they go wrong first at one line, in one way
+  pub record OneReading : Type 0 where
+    pub one-list : (cs ds : List C) → said line cs ≡ said line ds → cs ≡ ds
+    pub not-both : (cs : List C) (refusal : Refusal) → WrongAt (said line cs) refusal → ⊥
+    pub one-refusal : (bs : List ℕ) (r s : Refusal) → WrongAt bs r → WrongAt bs s → r ≡ s
+
   -- what reading a list says: the costs that it says, or where it goes wrong; memory may be wanting at any time
   abbrev pub ListRead : List ℕ → Result (Vec (Row C) Global) Stop → Type 0
   ListRead bs (Ok v) = bs ≡ said line (costs-in v)
