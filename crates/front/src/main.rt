@@ -7,6 +7,9 @@ use std::io;
 use std::io::Read;
 use std::io::Write;
 
+#[cfg(test)]
+mod tests;
+
 // The one argument. With none, or more, the name is empty, and no list has it.
 fn list_name(rt: &LibcRuntime) -> io::Result<String> {
     let mut args = env::args(rt)?;
