@@ -1,4 +1,4 @@
-// Prints the costs of a price list that no other undercuts: `front costs` or `front zones`, with the list on standard input.
+// Prints the costs of a price list that no other dominates: `front costs` or `front zones`, with the list on standard input.
 use prices::Answer;
 use prices::MOST_BYTES;
 use prices::front_page;
@@ -24,7 +24,9 @@ fn list_name(rt: &LibcRuntime) -> io::Result<String> {
 fn run(rt: &LibcRuntime) -> io::Result<bool> {
     let name = list_name(rt)?;
     let mut input = Vec::new(rt.alloc());
-    rt.stdin().take(MOST_BYTES as u64 + 1).read_to_end(&mut input)?;
+    rt.stdin()
+        .take(MOST_BYTES as u64 + 1)
+        .read_to_end(&mut input)?;
     match front_page(name.as_str(), input.as_slice(), rt.alloc())? {
         Answer::Page(page) => {
             rt.stdout().write_all(page.as_slice())?;

@@ -68,26 +68,28 @@ pub cost-lines : Lines cost-line CostLarge
 cost-lines =
     record {
       plain = λ c. all-append (λ b. b ≡ 10 → ⊥) (decimal (c .first .value)) (32 ∷ decimal (c .second .value)) (total-without 10 c (omega arith))
-        (λ e. omega arith, digits-without 10 _ (omega arith) (decimal-base-ten (c .second .value) (worst-small c) .0));
+          (λ e. omega arith, digits-without 10 _ (omega arith) (decimal-base-ten (c .second .value) (worst-small c) .0));
       apart = same-cost;
       fits = not-large;
     }
 
 -- bytes with no space are no line of costs
 pub no-space : (bs : List ℕ) → Without 32 bs → LineRead cost-line CostLarge bs (Err Malformed)
-no-space bs h =
-    (λ c e. not-within 32 (decimal (c .first .value)) (decimal (c .second .value)) (subst (Without 32) e h),
-     λ large. not-within 32 (large .left) (large .right) (subst (Without 32) (large .parts) h))
+no-space bs h = (
+  λ c e. not-within 32 (decimal (c .first .value)) (decimal (c .second .value)) (subst (Without 32) e h),
+  λ large. not-within 32 (large .left) (large .right) (subst (Without 32) (large .parts) h),
+)
 
 -- nor are two parts that are not both numbers
 not-numbers : (bs l r : List ℕ) → bs ≡ l ++ (32 ∷ r) → Without 32 l → (BaseTen l → BaseTen r → ⊥) → LineRead cost-line CostLarge bs (Err Malformed)
-not-numbers bs l r e h never =
-    (λ c f.
-       let same = same-parts bs l r (decimal (c .first .value)) (decimal (c .second .value)) e h f (total-without 32 c (omega arith)) in
-       never (subst BaseTen (sym (same .0)) (decimal-base-ten _ (total-small c))) (subst BaseTen (sym (same .1)) (decimal-base-ten _ (worst-small c))),
-     λ large.
-       let same = same-parts bs l r (large .left) (large .right) e h (large .parts) (digits-without 32 _ (omega arith) (large .left-number .0)) in
-       never (subst BaseTen (sym (same .0)) (large .left-number)) (subst BaseTen (sym (same .1)) (large .right-number)))
+not-numbers bs l r e h never = (
+  λ c f.
+      let same = same-parts bs l r (decimal (c .first .value)) (decimal (c .second .value)) e h f (total-without 32 c (omega arith)) in
+      never (subst BaseTen (sym (same .0)) (decimal-base-ten _ (total-small c))) (subst BaseTen (sym (same .1)) (decimal-base-ten _ (worst-small c))),
+  λ large.
+      let same = same-parts bs l r (large .left) (large .right) e h (large .parts) (digits-without 32 _ (omega arith) (large .left-number .0)) in
+      never (subst BaseTen (sym (same .0)) (large .left-number)) (subst BaseTen (sym (same .1)) (large .right-number)),
+)
 
 number-is : (most : ℕ) (bs : List ℕ) (n : ℕ) → most < 2 ^ 64 → NumberRead most bs (Ok n) → BaseTen bs
 number-is most bs n h is = subst BaseTen (sym (is .0)) (decimal-base-ten n (omega arith))

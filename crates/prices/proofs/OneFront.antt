@@ -28,7 +28,7 @@ module _ {C : Type 0} (k : Kind C) (laws : Laws k) where
   same-first : (c d : C) (cs ds : List C) → All (Before k c) cs → All (Before k d) ds → Has (d ∷ ds) c → Has (c ∷ cs) d → c ≡ d
   same-first c d cs ds p q h g =
       ⊎-elim sym (λ later. ⊎-elim (λ e. e)
-        (λ after. absurd (laws .before-irrefl c (laws .before-trans c d c (all-has (Before k c) cs d p after) (all-has (Before k d) ds c q later)))) (has-cases c cs d g)) (has-cases d ds c h)
+      (λ after. absurd (laws .before-irrefl c (laws .before-trans c d c (all-has (Before k c) cs d p after) (all-has (Before k d) ds c q later)))) (has-cases c cs d g)) (has-cases d ds c h)
 
   -- a member that comes after the first is among the others
   among : (c x : C) (cs : List C) → Before k c x → Has (c ∷ cs) x → Has cs x
@@ -41,8 +41,8 @@ module _ {C : Type 0} (k : Kind C) (laws : Laws k) where
   same-lists (c ∷ cs) (d ∷ ds) p q to from =
       let e = same-first c d cs ds (p .0) (q .0) (to c (has-first c cs)) (from d (has-first d ds)) in
       let rest = same-lists cs ds (p .1) (q .1)
-            (λ x h. among d x ds (subst (λ (y : C). Before k y x) e (all-has (Before k c) cs x (p .0) h)) (to x (has-later c cs x h)))
-            (λ x h. among c x cs (subst (λ (y : C). Before k y x) (sym e) (all-has (Before k d) ds x (q .0) h)) (from x (has-later d ds x h))) in
+      (λ x h. among d x ds (subst (λ (y : C). Before k y x) e (all-has (Before k c) cs x (p .0) h)) (to x (has-later c cs x h)))
+      (λ x h. among c x cs (subst (λ (y : C). Before k y x) (sym e) (all-has (Before k d) ds x (q .0) h)) (from x (has-later d ds x h))) in
       cc (e, rest)
 
   pub one-front : (P : C → Type 0) (cs ds : List C) → Front k P cs → Front k P ds → cs ≡ ds

@@ -31,7 +31,7 @@ abbrev pub output : Answer → Output
 output (Page v) = Ok (vec-items v)
 output (NoPage s) = Err (string-bytes s)
 
--- the input says costs, and the bytes are the page of their front: of those that no other undercuts, each once, in the kind's order
+-- the input says costs, and the bytes are the page of their front: of those that no other dominates, each once, in the kind's order
 pub record PageOf {C : Type 0} (line text : C → List ℕ) (k : Kind C) (input out : List ℕ) : Type 0 where
   pub few : length input ≤ 16384
   pub costs : List C

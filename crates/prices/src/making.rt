@@ -39,7 +39,10 @@ fn make_page<C: Priced>(input: &[u8], heap: Global) -> Result<Vec<u8>, Stop>
     ensures { λ r. ⌜ PageMade (C·Priced .line) (C·Priced .large) (C·Text .text) (C·CostKind .kind) (now (input .entry)) r ⌝ }
 {
     if input.len() > MOST_BYTES {
-        return Err(Stop::Refused(Refusal { line: 0, fault: Fault::TooManyBytes }));
+        return Err(Stop::Refused(Refusal {
+            line: 0,
+            fault: Fault::TooManyBytes,
+        }));
     }
     let given = read_list::<C>(input, heap)?;
     let front = front_rows(given.as_slice(), heap)?;

@@ -33,7 +33,11 @@ fn tally(count: usize, read: usize, heap: Global) -> Result<String, AllocError>
 }
 
 // The page for the rows that are kept of `read` costs.
-pub fn write_page<C: CostKind>(rows: &[Row<C>], read: usize, heap: Global) -> Result<Vec<u8>, AllocError>
+pub fn write_page<C: CostKind>(
+    rows: &[Row<C>],
+    read: usize,
+    heap: Global,
+) -> Result<Vec<u8>, AllocError>
     ensures { λ r. ⌜ made r (λ v. vec-items v ≡ page (C·Text .text) (costs-of (entries (now (rows .entry)))) read) ⌝ }
 {
     let mut out = Vec::new(heap);

@@ -33,7 +33,10 @@ pub fn front_page(name: &str, input: &[u8], heap: Global) -> Result<Answer, Allo
         "costs" => answer_list::<Pair<Total, Worst>>(input, heap),
         "zones" => answer_list::<Zones>(input, heap),
         _ => {
-            let refusal = Refusal { line: 0, fault: Fault::UnknownList };
+            let refusal = Refusal {
+                line: 0,
+                fault: Fault::UnknownList,
+            };
             Ok(Answer::NoPage(refusal.text(heap)?))
         }
     }

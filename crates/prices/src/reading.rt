@@ -17,11 +17,17 @@ pub fn read_list<C: Priced>(input: &[u8], heap: Global) -> Result<Vec<Row<C>>, S
     while !rest.is_empty() {
         let line = rows.len() + 1;
         let Some((bytes, below)) = split_once(rest, b'\n') else {
-            return Err(Stop::Refused(Refusal { line, fault: Fault::NoNewline }));
+            return Err(Stop::Refused(Refusal {
+                line,
+                fault: Fault::NoNewline,
+            }));
         };
         match C::read_line(bytes) {
             Ok(cost) => rows.push(Row { cost, tag: 0 })?,
-            Err(fault) => return Err(Stop::Refused(Refusal { line, fault: Fault::Line(fault) })),
+            Err(fault) => return Err(Stop::Refused(Refusal {
+                line,
+                fault: Fault::Line(fault),
+            })),
         }
         rest = below;
     }

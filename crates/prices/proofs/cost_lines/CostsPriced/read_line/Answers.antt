@@ -11,4 +11,4 @@ returns-in-Break-total c =
     let p = err-from-errBy (c .from-residual .result) (c .from-residual .ensures .1) in
     rw (p .1, p .2)
     (parts-unread (c .args .bytes .now) (c .in-Some .left .now) (c .in-Some .right .now) (c .read-number .result) (c .read-number-2 .result) (c .in-Break-total .field-0 .0)
-      (c .in-Some .ensures tt .0) (c .in-Some .ensures tt .1) (c .read-number .ensures) (c .read-number-2 .ensures) (sym (c .both .ensures) ∙ c .in-Break-total .was tt))
+    (c .in-Some .ensures tt .0) (c .in-Some .ensures tt .1) (c .read-number .ensures) (c .read-number-2 .ensures) (sym (c .both .ensures) ∙ c .in-Break-total .was tt))
