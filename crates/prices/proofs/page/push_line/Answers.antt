@@ -4,6 +4,9 @@ use Prim.Native.Nat.{ℕ, _≤_, _<_, _+_}
 use native.Mathlib.Omega.{arith}
 use lib.ListN.{length, drop}
 use Rattle.std.specs.Of.Vec.{vec-items, vec-len}
+use Rattle.std.specs.Changed.{refilled}
+use Rattle.std.specs.declared.alloc.Global.{Global}
+use Rattle.std.specs.declared.vec.Vec.{Vec}
 use Rattle.std.specs.declared.option.Option.{Option}
 use Rattle.std.specs.declared.option.Option.the-variants.{Some, None}
 use Rattle.std.proofs.shelf.Lists.{append-nil, drop-all, refilled-is}
@@ -15,16 +18,16 @@ filled : (t was after : List ℕ) (r : Option ℕ) → Wrote t was after r → l
 filled t was after None w e = absurd (omega (arith, w .0))
 filled t was after (Some n) w e = w .2 ∙ ap (λ d. t ++ d) (drop-all (length t) was (omega arith)) ∙ append-nil t
 
-joined-line : (was mid after t : List ℕ) → mid ≡ was ++ t → after ≡ mid ++ (10 ∷ []) → after ≡ was ++ (t ++ (10 ∷ []))
-joined-line was mid after t e f = f ∙ ap (λ m. m ++ (10 ∷ [])) e ∙ append-assoc was t (10 ∷ [])
+-- the text that was written, and a newline, stand at the end
+line-pushed : (t lent after shown start mid end : List ℕ) (r : Option ℕ) (text : Vec ℕ Global) (len : ℕ) → len ≡ length t → vec-len text ≡ len → length lent ≡ vec-len text → Wrote t lent after r → shown ≡ vec-items (refilled text after) → mid ≡ start ++ shown → end ≡ mid ++ (10 ∷ []) → end ≡ start ++ (t ++ (10 ∷ []))
+line-pushed t lent after shown start mid end r text len l m n w s e f =
+    let wrote = filled t lent after r w (n ∙ m ∙ l) in
+    let is : shown ≡ t = s ∙ refilled-is text after (ap length wrote ∙ sym (m ∙ l)) ∙ wrote in
+    f ∙ ap (λ b. b ++ (10 ∷ [])) (e ∙ ap (λ b. start ++ b) is) ∙ append-assoc start t (10 ∷ [])
 
 pub returns : need.returns
 returns g c =
-    let t = g .C·Text .text (c .args .cost) in
-    let text = c .in-Continue-text .text in
-    let len : vec-len text ≡ length t = c .in-Continue-text .ensures tt .made .1 ∙ c .in-Some .ensures tt .0 in
-    let wrote : c .write-text .last .out ≡ t = filled t (c .as-mut-slice .result .now) (c .write-text .last .out) (c .write-text .result) (c .write-text .ensures) (c .as-mut-slice .ensures .len ∙ len) in
-    let read : c .as-slice .result .now ≡ t = c .as-slice .ensures .value ∙ refilled-is text (c .write-text .last .out) (ap length wrote ∙ sym len) ∙ wrote in
-    joined-line (vec-items (c .args .out .now)) (vec-items (c .extend-from-slice .last .self)) (vec-items (c .push .last .self)) t
-    (c .in-Continue-extend-from-slice .ensures tt .items ∙ ap (λ m. vec-items (c .args .out .now) ++ m) read)
-    (c .in-Continue-push .ensures tt .items)
+    line-pushed (g .C·Text .text (c .args .cost)) (c .as-mut-slice .result .now) (c .write-text .last .out) (c .as-slice .result .now)
+    (vec-items (c .args .out .now)) (vec-items (c .extend-from-slice .last .self)) (vec-items (c .push .last .self)) (c .write-text .result) (c .in-Continue-text .text) (c .in-Some .len)
+    (c .in-Some .ensures tt .0) (c .in-Continue-text .ensures tt .made .1) (c .as-mut-slice .ensures .len) (c .write-text .ensures) (c .as-slice .ensures .value)
+    (c .in-Continue-extend-from-slice .ensures tt .items) (c .in-Continue-push .ensures tt .items)

@@ -34,7 +34,7 @@ loop-rest-again g c =
     let longer = c .in-Continue-push .ensures tt .len in (
       said-more (g .C·Priced .line) (c .args .input .now) (c .loop-rest .rest .now) (c .in-Some .bytes .now) (c .in-Some .below .now)
           (costs-in (c .loop-rest .rows)) (costs-in (c .push .last .self)) (c .in-Ok .cost)
-          (c .loop-rest .inv .0) (c .in-Some .ensures tt .0) (c .in-Ok .ensures tt) (row-pushed (vec-items (c .loop-rest .rows)) (vec-items (c .push .last .self)) _ (c .in-Continue-push .ensures tt .items)),
+          (c .loop-rest .inv .0) (c .in-Some .ensures tt .0) (c .in-Ok .ensures tt) (row-pushed (vec-items (c .loop-rest .rows)) (vec-items (c .push .last .self)) (record { cost = c .in-Ok .cost; tag = 0 }) (c .in-Continue-push .ensures tt .items)),
       omega arith,
     )
 
