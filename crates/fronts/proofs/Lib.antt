@@ -3,4 +3,5 @@ pub mod Stepping
 pub mod Removals
 pub mod Insertions
 pub mod Additions
+pub mod WholeFronts
 pub mod Taking

@@ -1,48 +1,26 @@
 -- Rows taken one by one into a list: it holds the front of those taken so far.
 -- Assumes nothing.
-use mathlib.Core.Path.{_≡_, refl, sym, ap, subst, _∙_}
-use mathlib.Core.Bool.{Bool, true, false, cond}
-use mathlib.Core.List.{List, [], _∷_, _++_, map}
+use mathlib.Core.Path.{_≡_, refl, sym, ap, _∙_}
+use mathlib.Core.List.{List}
 use mathlib.Core.Logic.{inl, inr}
-use Prim.Native.Nat.{ℕ, zero, suc, _+_, _<_, _≤_, min}
+use Prim.Native.Nat.{ℕ, _+_, _<_, _≤_, min}
 use native.Mathlib.Omega.{arith}
 use lib.ListN.{length, take, drop, getD}
-use Rattle.std.specs.shelf.Lists.{All, Has}
-use Rattle.std.proofs.shelf.Lists.{length-map, length-take, length-take-le, map-more, take-all, drop-all}
-use Rattle.std.proofs.shelf.Elements.{all-has, all-has-itself, all-map, all-weaker}
-use Rattle.std.proofs.shelf.Tests.{cases-bool, cases-lt, cond-true}
-use Rattle.rules.specs.Kinds.{Kind, Laws, AtMost}
-use Rattle.rules.specs.Fronts.{Entry, Front, covered, unbeaten, added, added-all, front-of}
-use Rattle.rules.proofs.Members.{Any, any-weaker}
-use Rattle.rules.proofs.Fronts.{Covered, all-front, front-covers, front-short, is-front, ranked-front}
+use Rattle.std.proofs.shelf.Lists.{length-map, length-take, take-all}
+use Rattle.std.proofs.shelf.Tests.{cases-lt, cond-true}
+use Rattle.rules.specs.Kinds.{Kind, Laws}
+use Rattle.rules.specs.Fronts.{covered, added, front-of}
+use Rattle.rules.proofs.Fronts.{front-short}
 use Rattle.fronts.specs.declared.added.Added.{Added}
-use Rattle.fronts.specs.declared.added.Added.the-variants.{Covered as covers, Listed, NoRow}
+use Rattle.fronts.specs.declared.added.Added.the-variants.{Covered, Listed, NoRow}
 use Rattle.fronts.specs.declared.row.Row.{Row}
 use Rattle.fronts.specs.Rows.{entry-of, entries, in-use}
-use Rattle.fronts.specs.Changes.{Holds, Adds}
+use Rattle.fronts.specs.Changes.{Adds}
 use Rattle.fronts.specs.Lists.{used-after-add}
-use Rattle.fronts.specs.Whole.{costs-of, Fits, Whole, Outgrown}
+use Rattle.fronts.specs.Whole.{Fits, Whole, Outgrown}
 use Rattle.fronts.proofs.Parts.{take-min, drop-later}
-use Rattle.fronts.proofs.Insertions.{length-placed}
-use Rattle.fronts.proofs.Additions.{added-new}
-
-all-from-map : {X Y : Type 0} (P : X → Type 0) (f : Y → X) (ys : List Y) → All P (map f ys) → All (λ y. P (f y)) ys
-all-from-map P f [] h = tt
-all-from-map P f (y ∷ ys) h = (h .0, all-from-map P f ys (h .1))
-
-module _ {C : Type 0} (k : Kind C) where
-  added-all-push : (es ys : List (Entry C ℕ)) (x : Entry C ℕ) → added-all k es (ys ++ x ∷ []) ≡ added k (added-all k es ys) x
-  added-all-push es [] x = refl
-  added-all-push es (y ∷ ys) x = added-all-push (added k es y) ys x
-
-  front-more : (rs : List (Row C)) (i : ℕ) (d : Row C) → i < length rs → front-of k (in-use (i + 1) rs) ≡ added k (front-of k (in-use i rs)) (entry-of (getD rs i d))
-  front-more rs i d lt = ap (front-of k) (map-more entry-of rs i d lt) ∙ added-all-push [] (in-use i rs) (entry-of (getD rs i d))
-
-  unbeaten-few : (es : List (Entry C ℕ)) (c : C) → length (unbeaten k es c) ≤ length es
-  unbeaten-few [] c = omega arith
-  unbeaten-few (e ∷ es) c =
-      let rest = unbeaten-few es c in
-      elim (cases-bool (k .at-most c (e .cost))) [ inl h ↦ rw h (omega arith) | inr h ↦ rw h (omega arith) ]
+use Rattle.fronts.proofs.Additions.{added-few}
+use Rattle.fronts.proofs.WholeFronts.{front-more, is-whole}
 
 module _ {C : Type 0} (k : Kind C) (given : List (Row C)) where
   -- after i rows: what is in use, that there was room all along, and what no front has reached
@@ -79,7 +57,7 @@ module _ {C : Type 0} (k : Kind C) (given : List (Row C)) where
 
   pub taking-more : (start rows rows′ : List (Row C)) (len len′ i : ℕ) (x : Row C) (a : Added) → Taking start rows len i → i < length given → x ≡ getD given i x →
       Adds k (in-use len rows) (entry-of x) rows rows′ a → len′ ≡ used-after-add a len → (a ≡ NoRow → ⊥) → Taking start rows′ len′ (i + 1)
-  taking-more start rows rows′ len len′ i x covers h lt read adds used room =
+  taking-more start rows rows′ len len′ i x Covered h lt read adds used room =
       let next = next-front rows len i x (h .held) lt read in
       let same : added k (in-use len rows) (entry-of x) ≡ in-use len rows = cond-true (covered k (in-use len rows) (x .cost)) _ _ (adds .0) in
       let as-before : front-of k (in-use (i + 1) given) ≡ front-of k (in-use i given) = next ∙ same ∙ h .held in
@@ -109,8 +87,7 @@ module _ {C : Type 0} (k : Kind C) (given : List (Row C)) where
   taking-outgrown laws start rows rows′ last len i x h lt read adds e =
       let next = next-front rows len i x (h .held) lt read in
       let es = in-use len rows in
-      let few : length (added k es (entry-of x)) ≤ length es + 1 =
-          omega (arith, ap length (added-new k es (entry-of x) (adds .0)), length-placed k (unbeaten k es (x .cost)) (entry-of x), unbeaten-few k es (x .cost)) in
+      let few : length (added k es (entry-of x)) ≤ length es + 1 = added-few k es (entry-of x) (adds .0) in
       let used : length es ≡ min len (length rows) = length-map (take len rows) entry-of ∙ length-take len rows in
       let all : length rows ≤ len = omega (arith, adds .1) in
       let same : last ≡ rows = e ∙ adds .2 in
@@ -122,21 +99,6 @@ module _ {C : Type 0} (k : Kind C) (given : List (Row C)) where
         next = over;
         short = omega (arith, over, front-short k laws (in-use (i + 1) given), length-map (take (i + 1) given) entry-of, length-take (i + 1) given);
       }
-
-  -- each given cost is covered, by itself
-  self-covered : Laws k → (xs : List (Entry C ℕ)) → All (λ e. Covered k xs (e .cost)) xs
-  self-covered laws [] = tt
-  self-covered laws (x ∷ xs) =
-      (inl (laws .at-most-refl (x .cost)), all-weaker (λ e. Covered k xs (e .cost)) (λ e. Covered k (x ∷ xs) (e .cost)) (λ e h. inr h) xs (self-covered laws xs))
-
-  -- each given entry's cost is among the given costs
-  own-cost : (xs : List (Entry C ℕ)) → All (λ e. Has (costs-of xs) (e .cost)) xs
-  own-cost xs = all-from-map (Has (costs-of xs)) (λ e. e .cost) xs (all-has-itself (costs-of xs))
-
-  pub is-whole : Laws k → (xs : List (Entry C ℕ)) → Front k (Has (costs-of xs)) (costs-of (front-of k xs))
-  is-whole laws xs =
-      is-front k laws (Has (costs-of xs)) (front-of k xs) (ranked-front k laws xs) (all-front k (λ e. Has (costs-of xs) (e .cost)) xs (own-cost xs))
-      (λ c h. front-covers k laws xs c (all-has (Covered k xs) (costs-of xs) c (all-map (Covered k xs) (λ e. e .cost) xs (self-covered laws xs)) h))
 
   -- all rows are taken; last is what the slice then holds
   pub taking-whole : Laws k → (old start rows last : List (Row C)) (len n i : ℕ) → Taking start rows len i → i ≡ length given → n ≡ length (in-use len rows) → start ≡ old → last ≡ rows →
@@ -150,7 +112,7 @@ module _ {C : Type 0} (k : Kind C) (given : List (Row C)) where
       record {
         count = e ∙ ap length held;
         held = front;
-        front = rw front (is-whole laws (entries given));
+        front = rw front (is-whole k laws (entries given));
         fits = rw (long, ← done) (h .fits);
         rest = λ m fits. ap (drop m) same ∙ h .rest m (rw done fits) ∙ ap (drop m) begun;
       }

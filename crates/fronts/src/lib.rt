@@ -5,6 +5,8 @@ mod inserting;
 mod list;
 mod removing;
 mod row;
+#[cfg(test)]
+mod tests;
 mod whole;
 
 pub use added::Added;

@@ -3,7 +3,6 @@ use mathlib.Core.Bool.{not}
 use Prim.Native.Nat.{_<_, min}
 use native.Mathlib.Omega.{arith}
 use lib.ListN.{length}
-use borrow.Author.Needs.{needs}
 use Rattle.fronts.proofs.Removals.{removing-stays, removing-goes, removed-holds}
 use Rattle.fronts.proofs.removing.remove_beaten.Needs as need
 use Rattle.fronts.proofs.removing.remove_beaten.Needs.{then-not-at-most, else-not-at-most}
