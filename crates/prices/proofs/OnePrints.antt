@@ -1,12 +1,13 @@
 -- For each name and input there is only one thing to print.
 use mathlib.Core.Path.{_≡_, refl, sym, ap, subst, _∙_}
 use mathlib.Core.List.{List, [], _∷_, _++_, append-assoc}
-use Prim.Native.Nat.{ℕ, _+_, _<_, _≤_}
+use Prim.Native.Nat.{ℕ, _+_, _<_}
 use native.Mathlib.Omega.{arith}
 use lib.Chars.{codes}
 use lib.ListN.{length}
 use Rattle.std.specs.shelf.Lists.{Has}
 use Rattle.std.specs.declared.result.Result.the-variants.{Ok, Err}
+use Rattle.std.proofs.shelf.Tests.{false≢true}
 use Rattle.std.proofs.shelf.Lists.{append-nil, length-append}
 use Rattle.rules.specs.Kinds.{Kind, Laws}
 use Rattle.rules.specs.Fronts.{Front}
@@ -31,8 +32,8 @@ use Rattle.prices.specs.ZoneLines.{zones-line, none-large}
 use Rattle.prices.specs.PriceLists.{said, BeginsWrong, WrongAt, OneReading}
 use Rattle.prices.specs.Pages.{page}
 use Rattle.prices.specs.Refusals.{refusal-text}
-use Rattle.prices.specs.Answers.{Output, PageOf, RefusedFor, too-many, wrong, Answers}
-use Rattle.prices.specs.Printed.{Printed, of-costs, of-zones, of-none, OneReadings, OnePrint}
+use Rattle.prices.specs.Answers.{Output, PageOf, RefusedFor, too-many, wrong, Answers, PageExactly}
+use Rattle.prices.specs.Printed.{of-costs, of-zones, of-none, OneReadings, PagesExactly, OnePrint}
 use Rattle.prices.proofs.Saying.{not-within}
 use Rattle.prices.proofs.CostReads.{cost-lines}
 use Rattle.prices.proofs.ZoneReads.{zones-lines}
@@ -145,11 +146,22 @@ module _ {C : Type 0} (line : C → List ℕ) (Large : List ℕ → Type 0) (lin
     one-answer bs (Err a) (Ok b) (r, p, d) q = absurd (not-both bs b r q p)
     one-answer bs (Err a) (Err b) (r, p, d) (s, q, e) = ap Err (d ∙ ap refusal-text (one-refusal bs r s p q) ∙ sym e)
 
+    page-exactly : PageExactly line Large text k
+    page-exactly input (Ok out) p = (λ _. (p .few, (p .costs, p .says)), λ _. refl)
+    page-exactly input (Err out) (r, too-many h l f, e) = (λ no. absurd (false≢true no), λ says. absurd (omega (arith, says .0)))
+    page-exactly input (Err out) (r, wrong h p, e) = (λ no. absurd (false≢true no), λ says. absurd (not-wrong (says .1 .0) input r (says .1 .1) p))
+
 other-name : (name : List ℕ) → name ≡ codes "costs" → name ≡ codes "zones" → ⊥
 other-name name e f = let h : codes "costs" ≡ codes "zones" = sym e ∙ f in let z : _≡_ {A = ℕ} 99 122 = cc in omega arith
 
 pub one-readings : OneReadings
 one-readings = (one-reading cost-line CostLarge cost-lines, one-reading zones-line none-large zones-lines)
+
+pub pages-exactly : PagesExactly
+pages-exactly = (
+  page-exactly cost-line CostLarge cost-lines cost-line (pair-kind total-kind worst-kind) (pair-laws total-laws worst-laws),
+  page-exactly zones-line none-large zones-lines zones-text zones-kind zones-laws,
+)
 
 pub one-print : OnePrint
 one-print name input a b (of-costs e p) (of-costs f q) =

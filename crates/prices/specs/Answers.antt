@@ -4,6 +4,8 @@ use mathlib.Core.Path.{_≡_}
 use mathlib.Core.List.{List}
 use Prim.Native.Nat.{ℕ, _<_, _≤_}
 use lib.ListN.{length}
+use Rattle.std.specs.Results.{isOk}
+use Rattle.std.specs.Orderings.{Decides}
 use Rattle.std.specs.Of.String.{string-bytes}
 use Rattle.std.specs.Of.Vec.{vec-items}
 use Rattle.std.specs.shelf.Lists.{Has}
@@ -49,6 +51,10 @@ module _ {C : Type 0} (line : C → List ℕ) (Large : List ℕ → Type 0) (tex
   abbrev pub Answers : List ℕ → Output → Type 0
   Answers input (Ok out) = PageOf line text k input out
   Answers input (Err out) = (refusal : Refusal) × RefusedFor line Large input refusal × (out ≡ refusal-text refusal)
+
+  -- a page is printed exactly for the inputs of at most 16,384 bytes that say costs
+  abbrev pub PageExactly : Type 0
+  PageExactly = (input : List ℕ) (out : Output) → Answers input out → Decides (isOk out) ((length input ≤ 16384) × ((costs : List C) × (input ≡ said line costs)))
 
   -- the same before the refusal is put into words; memory may be wanting at any time
   abbrev pub PageMade : List ℕ → Result (Vec ℕ Global) Stop → Type 0

@@ -5,7 +5,6 @@ use mathlib.Core.List.{List}
 use Prim.Native.Nat.{ℕ}
 use lib.Chars.{codes}
 use Rattle.std.specs.declared.result.Result.the-variants.{Err}
-use Rattle.rules.specs.Kinds.{Kind}
 use Rattle.costs.specs.Pairs.{pair-kind}
 use Rattle.costs.specs.Totals.{total-kind}
 use Rattle.costs.specs.Worsts.{worst-kind}
@@ -15,7 +14,7 @@ use Rattle.prices.specs.CostLines.{cost-line, CostLarge}
 use Rattle.prices.specs.ZoneLines.{zones-line, none-large}
 use Rattle.prices.specs.PriceLists.{OneReading}
 use Rattle.prices.specs.Refusals.{refusal-text}
-use Rattle.prices.specs.Answers.{Output, Answers}
+use Rattle.prices.specs.Answers.{Output, Answers, PageExactly}
 
 -- `costs` is a list of a total and a worst, which are printed as they are read; `zones` is one of zone sets; there is no other.
 pub data Printed (name input : List ℕ) (out : Output) : Type 0 where
@@ -25,6 +24,9 @@ pub data Printed (name input : List ℕ) (out : Output) : Type 0 where
 
 abbrev pub OneReadings : Type 0
 OneReadings = OneReading cost-line CostLarge × OneReading zones-line none-large
+
+abbrev pub PagesExactly : Type 0
+PagesExactly = PageExactly cost-line CostLarge cost-line (pair-kind total-kind worst-kind) × PageExactly zones-line none-large zones-text zones-kind
 
 -- for each name and input there is only one thing to print
 abbrev pub OnePrint : Type 0

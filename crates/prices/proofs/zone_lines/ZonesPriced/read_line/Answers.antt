@@ -1,4 +1,3 @@
-use mathlib.Core.Path.{_≡_, sym}
 use native.Mathlib.Omega.{arith}
 use Rattle.prices.proofs.ZoneReads.{no-hex-digits, hex-digits-more, hex-bound, hex-small, hex-all, other-length, other-byte}
 use Rattle.prices.proofs.zone_lines.ZonesPriced.read_line.Needs as need
