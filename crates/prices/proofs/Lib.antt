@@ -1,0 +1,6 @@
+pub mod NumberReads
+pub mod Saying
+pub mod ZoneReads
+pub mod CostReads
+pub mod OneFront
+pub mod OnePrints

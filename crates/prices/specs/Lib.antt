@@ -1,0 +1,10 @@
+pub mod Numbers
+pub mod Splits
+pub mod Lines
+pub mod PriceLists
+pub mod ZoneLines
+pub mod CostLines
+pub mod Pages
+pub mod Refusals
+pub mod Answers
+pub mod Printed
