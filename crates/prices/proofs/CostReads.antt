@@ -18,14 +18,14 @@ use Rattle.costs.specs.declared.pair.Pair.{Pair}
 use Rattle.costs.specs.declared.total.Total.{Total}
 use Rattle.costs.specs.declared.worst.Worst.{Worst}
 use Rattle.costs.proofs.TextLaws.{until, past}
-use Rattle.prices.specs.declared.numbers.ReadFault.{ReadFault}
-use Rattle.prices.specs.declared.numbers.ReadFault.the-variants.{Malformed, TooLarge}
-use Rattle.prices.specs.Numbers.{BaseTen, NumberRead, both-read}
-use Rattle.prices.specs.Splits.{Without}
+use Rattle.digits.specs.declared.numbers.ReadFault.{ReadFault}
+use Rattle.digits.specs.declared.numbers.ReadFault.the-variants.{Malformed, TooLarge}
+use Rattle.digits.specs.Numbers.{BaseTen, NumberRead}
+use Rattle.digits.specs.Splits.{Without}
 use Rattle.prices.specs.Lines.{Lines, LineRead}
-use Rattle.prices.specs.CostLines.{cost-line, CostLarge}
+use Rattle.prices.specs.CostLines.{cost-line, CostLarge, both-read}
 use Rattle.prices.proofs.Saying.{not-within}
-use Rattle.prices.proofs.NumberReads.{digits-own, decimal-base-ten}
+use Rattle.digits.proofs.NumberReads.{digits-own, decimal-base-ten}
 
 -- digits have no space and no newline among them
 digits-without : (mark : ℕ) (bs : List ℕ) → mark < 48 → All (In 48 57) bs → Without mark bs

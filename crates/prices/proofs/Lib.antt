@@ -1,4 +1,3 @@
-pub mod NumberReads
 pub mod Saying
 pub mod ZoneReads
 pub mod CostReads

@@ -20,12 +20,12 @@ use Rattle.costs.proofs.PairLaws.{pair-laws}
 use Rattle.costs.proofs.TotalLaws.{total-laws}
 use Rattle.costs.proofs.WorstLaws.{worst-laws}
 use Rattle.costs.proofs.ZonesLaws.{zones-laws}
-use Rattle.prices.specs.declared.numbers.ReadFault.{ReadFault}
-use Rattle.prices.specs.declared.numbers.ReadFault.the-variants.{Malformed, TooLarge}
+use Rattle.digits.specs.declared.numbers.ReadFault.{ReadFault}
+use Rattle.digits.specs.declared.numbers.ReadFault.the-variants.{Malformed, TooLarge}
 use Rattle.prices.specs.declared.refusal.Fault.{Fault}
 use Rattle.prices.specs.declared.refusal.Fault.the-variants.{Line, NoNewline, TooManyBytes, UnknownList}
 use Rattle.prices.specs.declared.refusal.Refusal.{Refusal}
-use Rattle.prices.specs.Splits.{Without}
+use Rattle.digits.specs.Splits.{Without}
 use Rattle.prices.specs.Lines.{Lines, LineRead}
 use Rattle.prices.specs.CostLines.{cost-line, CostLarge}
 use Rattle.prices.specs.ZoneLines.{zones-line, none-large}

@@ -10,7 +10,7 @@ use Rattle.std.specs.declared.vec.Vec.{Vec}
 use Rattle.std.proofs.shelf.Lists.{append-nil, length-append, length-map, nil-from-length}
 use Rattle.fronts.specs.Rows.{entry-of, entries}
 use Rattle.fronts.specs.declared.row.Row.{Row}
-use Rattle.prices.specs.Splits.{Without}
+use Rattle.digits.specs.Splits.{Without}
 use Rattle.prices.specs.PriceLists.{said, costs-in}
 
 module _ {C : Type 0} (line : C → List ℕ) where

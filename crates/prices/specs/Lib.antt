@@ -1,5 +1,3 @@
-pub mod Numbers
-pub mod Splits
 pub mod Lines
 pub mod PriceLists
 pub mod ZoneLines

@@ -5,9 +5,9 @@ use mathlib.Core.List.{List}
 use Prim.Native.Nat.{ℕ}
 use Rattle.std.specs.declared.result.Result.{Result}
 use Rattle.std.specs.declared.result.Result.the-variants.{Ok, Err}
-use Rattle.prices.specs.declared.numbers.ReadFault.{ReadFault}
-use Rattle.prices.specs.declared.numbers.ReadFault.the-variants.{Malformed, TooLarge}
-use Rattle.prices.specs.Splits.{Without}
+use Rattle.digits.specs.declared.numbers.ReadFault.{ReadFault}
+use Rattle.digits.specs.declared.numbers.ReadFault.the-variants.{Malformed, TooLarge}
+use Rattle.digits.specs.Splits.{Without}
 
 -- `line` is how a cost is written on its line; `Large` holds of what is of that form but for a number above the most.
 module _ {C : Type 0} (line : C → List ℕ) (Large : List ℕ → Type 0) where

@@ -17,7 +17,7 @@ use Rattle.prices.specs.declared.refusal.Fault.the-variants.{Line, NoNewline, 
 use Rattle.prices.specs.declared.refusal.Refusal.{Refusal}
 use Rattle.prices.specs.declared.refusal.Stop.{Stop}
 use Rattle.prices.specs.declared.refusal.Stop.the-variants.{Memory, Refused}
-use Rattle.prices.specs.Splits.{Without}
+use Rattle.digits.specs.Splits.{Without}
 use Rattle.prices.specs.Lines.{LineRead}
 
 -- each cost on a line of its own

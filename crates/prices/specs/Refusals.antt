@@ -4,7 +4,7 @@ use mathlib.Core.List.{List, _++_}
 use Prim.Native.Nat.{ℕ}
 use lib.Chars.{codes}
 use Rattle.std.specs.Written.{decimal}
-use Rattle.prices.specs.declared.numbers.ReadFault.the-variants.{Malformed, TooLarge}
+use Rattle.digits.specs.declared.numbers.ReadFault.the-variants.{Malformed, TooLarge}
 use Rattle.prices.specs.declared.refusal.Fault.{Fault}
 use Rattle.prices.specs.declared.refusal.Fault.the-variants.{Line, NoNewline, TooManyBytes, UnknownList}
 use Rattle.prices.specs.declared.refusal.Refusal.{Refusal}

@@ -1,9 +1,8 @@
 ghost use mathlib.Core.Path.{_≡_};
-ghost use Rattle.prices.specs.CostLines.{cost-line, CostLarge};
-ghost use Rattle.prices.specs.Numbers.{both-read};
-use crate::bytes::split_once;
-use crate::numbers::ReadFault;
-use crate::numbers::read_number;
+ghost use Rattle.prices.specs.CostLines.{cost-line, CostLarge, both-read};
+use digits::split_once;
+use digits::ReadFault;
+use digits::read_number;
 use crate::priced::Priced;
 use costs::Pair;
 use costs::PairKind;

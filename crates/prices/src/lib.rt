@@ -1,8 +1,6 @@
 mod answer;
-mod bytes;
 mod cost_lines;
 mod making;
-mod numbers;
 mod page;
 mod priced;
 mod printing;
@@ -12,11 +10,8 @@ mod refusal_text;
 mod zone_lines;
 
 pub use answer::Answer;
-pub use bytes::split_once;
 pub use cost_lines::CostsPriced;
 pub use making::MOST_BYTES;
-pub use numbers::ReadFault;
-pub use numbers::read_number;
 pub use priced::Priced;
 pub use printing::front_page;
 pub use zone_lines::ZonesPriced;

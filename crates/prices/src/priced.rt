@@ -1,7 +1,7 @@
 ghost use mathlib.Core.List.{List};
 ghost use Prim.Native.Nat.{ℕ};
 ghost use Rattle.prices.specs.Lines.{Lines, LineRead};
-use crate::numbers::ReadFault;
+use digits::ReadFault;
 use costs::CostKind;
 
 // Costs that stand in price lists, one on a line.

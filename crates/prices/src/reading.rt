@@ -1,5 +1,5 @@
 ghost use Rattle.prices.specs.PriceLists.{ListRead};
-use crate::bytes::split_once;
+use digits::split_once;
 use crate::priced::Priced;
 use crate::refusal::Fault;
 use crate::refusal::Refusal;

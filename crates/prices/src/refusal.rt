@@ -1,6 +1,6 @@
 ghost use mathlib.Core.Path.{_≡_};
 ghost use Rattle.prices.specs.declared.refusal.Stop.the-variants.{Memory};
-use crate::numbers::ReadFault;
+use digits::ReadFault;
 use std::alloc::AllocError;
 
 // Why no page is printed.

@@ -2,7 +2,7 @@ ghost use mathlib.Core.Path.{_≡_};
 ghost use Rattle.std.specs.Of.String.{string-bytes};
 ghost use Rattle.std.specs.Vec.{made};
 ghost use Rattle.prices.specs.Refusals.{fault-text, refusal-text};
-use crate::numbers::ReadFault;
+use digits::ReadFault;
 use crate::refusal::Fault;
 use crate::refusal::Refusal;
 use std::alloc::AllocError;

@@ -1,5 +1,5 @@
 ghost use Rattle.prices.specs.ZoneLines.{HexRead, zones-line, none-large};
-use crate::numbers::ReadFault;
+use digits::ReadFault;
 use crate::priced::Priced;
 use costs::Zones;
 use costs::ZonesKind;

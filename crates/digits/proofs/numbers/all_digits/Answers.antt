@@ -1,13 +1,15 @@
 use mathlib.Core.Path.{subst}
+use mathlib.Core.Bool.{true, false}
 use mathlib.Core.List.{List}
-use Prim.Native.Nat.{ℕ}
+use Prim.Native.Nat.{ℕ, _≤_}
 use native.Mathlib.Omega.{arith}
 use borrow.Author.Needs.{needs}
+use lib.ListN.{length}
 use Rattle.std.specs.Text.{In}
 use Rattle.std.specs.shelf.Lists.{All}
 use Rattle.std.proofs.shelf.Elements.{all-more, all-getD}
 use Rattle.std.proofs.shelf.Lists.{take-all}
-use Rattle.prices.proofs.numbers.all_digits.Needs as need
+use Rattle.digits.proofs.numbers.all_digits.Needs as need
 
 pub returns-then-not-is-ascii-digit : need.returns-then-not-is-ascii-digit
 returns-then-not-is-ascii-digit c =

@@ -1,6 +1,6 @@
 -- Numbers in base ten: their value, and that their text is the one that `decimal` writes.
 use mathlib.Core.Path.{_≡_, refl, sym, ap, subst, _∙_}
-use mathlib.Core.List.{List, [], _∷_, _++_}
+use mathlib.Core.List.{List, [], _∷_, _++_, map}
 use mathlib.Core.Logic.{_⊎_, inl, inr}
 use Prim.Native.Nat.{ℕ, _+_, _-_, _*_, _^_, _≤_, _<_}
 use native.Mathlib.Omega.{arith}
@@ -17,7 +17,7 @@ use Rattle.std.proofs.shelf.Lists.{take-append-drop}
 use Rattle.std.proofs.shelf.Numerals.{Numerals, numerals-by-value}
 use Rattle.std.proofs.shelf.Tests.{cases-eq}
 use Rattle.std.proofs.shelf.Ways.{tells}
-use Rattle.prices.specs.Numbers.{BaseTen}
+use Rattle.digits.specs.Numbers.{BaseTen}
 
 pub digits-own : Numerals (All (In 48 57)) (value 10)
 digits-own = numerals-by-value _ (search needs)

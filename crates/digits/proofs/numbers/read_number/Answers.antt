@@ -1,6 +1,6 @@
 use mathlib.Core.Path.{_≡_, refl, ap, sym, _∙_}
 use mathlib.Core.List.{List}
-use Prim.Native.Nat.{ℕ, _<_, _+_, _-_, _*_, _^_}
+use Prim.Native.Nat.{ℕ, _≤_, _<_, _+_, _-_, _*_, _^_}
 use native.Mathlib.Omega.{arith}
 use lib.ListN.{length, getD, take}
 use Rattle.std.specs.Reads.{value}
@@ -8,9 +8,9 @@ use Rattle.std.specs.Text.{In}
 use Rattle.std.specs.Written.{decimal}
 use Rattle.std.proofs.shelf.Elements.{all-getD}
 use Rattle.std.proofs.shelf.Lists.{take-all}
-use Rattle.prices.specs.Numbers.{BaseTen}
-use Rattle.prices.proofs.NumberReads.{value-next, front-value-le, decimal-of-value}
-use Rattle.prices.proofs.numbers.read_number.Needs as need
+use Rattle.digits.specs.Numbers.{BaseTen}
+use Rattle.digits.proofs.NumberReads.{value-next, front-value-le, decimal-of-value}
+use Rattle.digits.proofs.numbers.read_number.Needs as need
 
 next-value : (bs : List ℕ) (i v : ℕ) → BaseTen bs → i < length bs → v ≡ value 10 (take i bs) → v * 10 + (getD bs i 0 - 48) ≡ value 10 (take (i + 1) bs)
 next-value bs i v ten h e = ap (λ n. n * 10 + (getD bs i 0 - 48)) e ∙ sym (value-next bs i h (ten .0))

@@ -1,12 +1,13 @@
-use mathlib.Core.Path.{_≡_, ap, sym, subst, _∙_}
+use mathlib.Core.Path.{_≡_, refl, ap, sym, subst, _∙_}
 use mathlib.Core.List.{List, _∷_, _++_}
-use Prim.Native.Nat.{ℕ, _<_, _+_, _-_}
+use Prim.Native.Nat.{ℕ, _≤_, _<_, _+_, _-_}
 use native.Mathlib.Omega.{arith}
 use lib.ListN.{length, getD, take, drop}
+use Rattle.std.specs.shelf.Lists.{All}
 use Rattle.std.proofs.shelf.Elements.{all-more}
 use Rattle.std.proofs.shelf.Lists.{take-all, take-append-drop, drop-more, take-rest}
-use Rattle.prices.specs.Splits.{Without}
-use Rattle.prices.proofs.bytes.split_once.Needs as need
+use Rattle.digits.specs.Splits.{Without}
+use Rattle.digits.proofs.bytes.split_once.Needs as need
 
 split-here : (bs : List ℕ) (i b : ℕ) → i < length bs → getD bs i 0 ≡ b → bs ≡ take i bs ++ (b ∷ take (length bs - (i + 1)) (drop (i + 1) bs))
 split-here bs i b h e =

@@ -1,4 +1,4 @@
-ghost use Rattle.prices.specs.Splits.{SplitOnce};
+ghost use Rattle.digits.specs.Splits.{SplitOnce};
 
 // What stands before and after the first `byte`, if there is one.
 pub fn split_once(bytes: &[u8], byte: u8) -> Option<(&[u8], &[u8])>

@@ -9,8 +9,8 @@ use Rattle.std.specs.Written.{decimal}
 use Rattle.std.specs.shelf.Lists.{All}
 use Rattle.std.specs.declared.result.Result.{Result}
 use Rattle.std.specs.declared.result.Result.the-variants.{Ok, Err}
-use Rattle.prices.specs.declared.numbers.ReadFault.{ReadFault}
-use Rattle.prices.specs.declared.numbers.ReadFault.the-variants.{Malformed, TooLarge}
+use Rattle.digits.specs.declared.numbers.ReadFault.{ReadFault}
+use Rattle.digits.specs.declared.numbers.ReadFault.the-variants.{Malformed, TooLarge}
 
 -- digits alone, at least one, and no zero before another digit
 abbrev pub BaseTen : List ℕ → Type 0
@@ -21,12 +21,3 @@ abbrev pub NumberRead : ℕ → List ℕ → Result ℕ ReadFault → Type 0
 NumberRead most bs (Ok n) = (bs ≡ decimal n) × (n ≤ most)
 NumberRead most bs (Err TooLarge) = BaseTen bs × (most < value 10 bs)
 NumberRead most bs (Err Malformed) = BaseTen bs → ⊥
-
--- both numbers; that one is none comes before that one is too large
-abbrev pub both-read : Result ℕ ReadFault → Result ℕ ReadFault → Result (ℕ × ℕ) ReadFault
-both-read (Ok m) (Ok n) = Ok (m, n)
-both-read (Ok m) (Err fault) = Err fault
-both-read (Err fault) (Ok n) = Err fault
-both-read (Err TooLarge) (Err TooLarge) = Err TooLarge
-both-read (Err TooLarge) (Err Malformed) = Err Malformed
-both-read (Err Malformed) (Err fault) = Err Malformed

@@ -1,7 +1,7 @@
 ghost use Rattle.std.specs.Orderings.{Decides};
 ghost use Rattle.std.specs.Text.{In};
 ghost use Rattle.std.specs.shelf.Lists.{All};
-ghost use Rattle.prices.specs.Numbers.{BaseTen, NumberRead};
+ghost use Rattle.digits.specs.Numbers.{BaseTen, NumberRead};
 
 // Why bytes are not read: they are not of the form, or they write a number above the most.
 #[derive(Clone, Copy, PartialEq, Eq, Debug)]
