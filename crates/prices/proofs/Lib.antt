@@ -1,5 +1,4 @@
 pub mod Saying
 pub mod ZoneReads
 pub mod CostReads
-pub mod OneFront
 pub mod OnePrints

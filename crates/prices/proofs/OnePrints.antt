@@ -37,7 +37,7 @@ use Rattle.prices.specs.Printed.{of-costs, of-zones, of-none, OneReadings, Pag
 use Rattle.prices.proofs.Saying.{not-within}
 use Rattle.prices.proofs.CostReads.{cost-lines}
 use Rattle.prices.proofs.ZoneReads.{zones-lines}
-use Rattle.prices.proofs.OneFront.{one-front}
+use Rattle.rules.proofs.SameFronts.{front-same}
 
 module _ {C : Type 0} (line : C → List ℕ) (Large : List ℕ → Type 0) (lines : Lines line Large) where
   -- no cost's line begins the bytes
@@ -133,7 +133,7 @@ module _ {C : Type 0} (line : C → List ℕ) (Large : List ℕ → Type 0) (lin
     one-page : (bs a b : List ℕ) → PageOf line text k bs a → PageOf line text k bs b → a ≡ b
     one-page bs a b p q =
         let costs = one-list (p .costs) (q .costs) (sym (p .says) ∙ q .says) in
-        let kept = one-front k laws (Has (q .costs)) (p .kept) (q .kept) (subst (λ (cs : List C). Front k (Has cs) (p .kept)) costs (p .front)) (q .front) in
+        let kept = front-same k laws (Has (q .costs)) (p .kept) (q .kept) (subst (λ (cs : List C). Front k (Has cs) (p .kept)) costs (p .front)) (q .front) in
         p .prints ∙ ap (λ fs. page text fs (length (p .costs))) kept ∙ ap (λ cs. page text (q .kept) (length cs)) costs ∙ sym (q .prints)
 
     not-both : (bs a : List ℕ) (r : Refusal) → PageOf line text k bs a → RefusedFor line Large bs r → ⊥
