@@ -3,3 +3,4 @@ pub mod Showing
 pub mod Seeking
 pub mod Parts
 pub mod Indexing
+pub mod Moving

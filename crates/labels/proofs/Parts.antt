@@ -3,12 +3,14 @@
 use mathlib.Core.Path.{_≡_, refl, sym, ap, subst, _∙_}
 use mathlib.Core.List.{List, [], _∷_, _++_, map}
 use mathlib.Core.Logic.{inl, inr}
-use Prim.Native.Nat.{ℕ, suc, _+_, _<_, _≤_}
+use Prim.Native.Nat.{ℕ, suc, _+_, _-_, _<_, _≤_}
 use native.Mathlib.Omega.{arith}
 use lib.ListN.{length, take, drop, getD, set}
 use Rattle.std.specs.Iters.{counting}
+use Rattle.std.specs.shelf.Lists.{All}
+use Rattle.std.proofs.shelf.Elements.{all-getD}
 use Rattle.std.proofs.shelf.Tests.{cases-eq}
-use Rattle.std.proofs.shelf.Lists.{append-nil, append-assoc, take-append-drop, take-more, take-all, take-at, length-append, length-push, drop-at, take-append-le, getD-set-same, getD-set-other, take-more-set, length-set, length-take-le}
+use Rattle.std.proofs.shelf.Lists.{append-nil, append-assoc, take-append-drop, take-more, take-all, take-at, length-append, length-push, drop-at, take-append-le, getD-set-same, getD-set-other, take-more-set, length-set, length-take-le, length-drop, getD-drop, getD-take}
 use Rattle.rules.specs.Offers.{joined-lists, total-length}
 use Rattle.labels.specs.Parts.{Part}
 
@@ -80,3 +82,13 @@ module _ {X : Type 0} where
           ∙ ap (λ l. drop (total-length (take c cells)) (take (total-length (take (c + 1) cells)) l)) whole
           ∙ ap (drop (total-length (take c cells))) (take-append-le (total-length (take (c + 1) cells)) (joined-lists cells) more fits)
           ∙ part-of cells c lt }
+
+  -- what each element of a part has, the element at a place of it has
+  pub part-has : (P : X → Type 0) (begins : List ℕ) (xs : List X) (n : ℕ) (part : List X) → Part begins xs n part → All P part → (e : ℕ) (d : X) → getD begins n 0 ≤ e → e < getD begins (n + 1) 0 → P (getD xs e d)
+  part-has P begins xs n part h all e d lo hi =
+      let a = getD begins n 0 in
+      let b = getD begins (n + 1) 0 in
+      let long : length (drop a (take b xs)) ≡ b - a = length-drop a (take b xs) ∙ ap (λ m. m - a) (length-take-le b xs (h .within)) in
+      let at : a + (e - a) ≡ e = omega arith in
+      let in-part : e - a < length part = omega (arith, long, ap length (h .same)) in
+      subst P (ap (λ l. getD l (e - a) d) (sym (h .same)) ∙ getD-drop a (take b xs) (e - a) d ∙ ap (λ m. getD (take b xs) m d) at ∙ getD-take b xs e d hi) (all-getD P part (e - a) d in-part all)

@@ -4,3 +4,4 @@ pub mod Seeking
 pub mod Queries
 pub mod Parts
 pub mod Indexes
+pub mod Cells

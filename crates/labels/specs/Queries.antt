@@ -1,11 +1,12 @@
 -- What a query asks, in the words of the rules: one cart of an instance, under some constraints.
 -- Assumes nothing.
+use mathlib.Core.Bool.{Bool}
 use mathlib.Core.List.{List, map}
 use Prim.Native.Nat.{ℕ}
 use Rattle.rules.specs.Kinds.{Kind}
 use Rattle.rules.specs.Instances.{Instance, Move, places}
 use Rattle.rules.specs.Walks.{Constraint}
-use Rattle.rules.specs.Offers.{Label, kept-row}
+use Rattle.rules.specs.Offers.{Label, may-be, may-go, candidates, kept-row}
 use Rattle.carts.specs.Carts.{cart-of}
 use Rattle.labels.specs.declared.query.Query.{Query}
 
@@ -29,3 +30,14 @@ module _ {C : Type 0} (a : Asked C) where
 
   abbrev pub place-count : ℕ
   place-count = places (a .inst)
+
+  -- the cart may be at p at tick t; it may go from u to p leaving at tick t
+  abbrev pub may-be-at : ℕ → ℕ → Bool
+  may-be-at p t = may-be (a .inst) (a .cart) (a .constraints) p t
+
+  abbrev pub may-take : ℕ → ℕ → ℕ → Bool
+  may-take u p t = may-go (a .inst) (a .cart) (a .constraints) u p t
+
+  -- what the labels of tick t bring to p
+  abbrev pub reaching : ℕ → ℕ → List (Label C)
+  reaching t p = candidates (a .inst) (a .cart) (a .constraints) t (row-of t) p

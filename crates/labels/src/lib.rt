@@ -1,6 +1,8 @@
+mod cell;
 mod constraints;
 mod inbound;
 mod index;
+mod moves;
 mod query;
 mod row;
 mod rows;
