@@ -4,3 +4,5 @@ pub mod Seeking
 pub mod Parts
 pub mod Indexing
 pub mod Moving
+pub mod Filling
+pub mod Tabling

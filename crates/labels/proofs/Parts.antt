@@ -12,7 +12,7 @@ use Rattle.std.proofs.shelf.Elements.{all-getD}
 use Rattle.std.proofs.shelf.Tests.{cases-eq}
 use Rattle.std.proofs.shelf.Lists.{append-nil, append-assoc, take-append-drop, take-more, take-all, take-at, length-append, length-push, drop-at, take-append-le, getD-set-same, getD-set-other, take-more-set, length-set, length-take-le, length-drop, getD-drop, getD-take}
 use Rattle.rules.specs.Offers.{joined-lists, total-length}
-use Rattle.labels.specs.Parts.{Part}
+use Rattle.labels.specs.Parts.{Marked, Part}
 
 module _ {X : Type 0} where
   pub joined-append : (xs ys : List (List X)) → joined-lists (xs ++ ys) ≡ joined-lists xs ++ joined-lists ys
@@ -45,11 +45,7 @@ module _ {X : Type 0} where
       ∙ ap (drop (total-length (take c cells))) front
       ∙ drop-at (joined-lists (take c cells)) (getD cells c []) (total-length (take c cells)) (length-joined (take c cells))
 
-  -- the beginnings of the cells, and the end of the last
-  pub record Marked (begins : List ℕ) (cells : List (List X)) : Type 0 where
-    pub at : (c : ℕ) → c ≤ length cells → getD begins c 0 ≡ total-length (take c cells)
-
-  pub marked-none : (begins : List ℕ) → getD begins 0 0 ≡ 0 → Marked begins []
+  pub marked-none : (begins : List ℕ) → getD begins 0 0 ≡ 0 → Marked {X = X} begins []
   marked-none begins e = record { at = λ c le. let z : c ≡ 0 = omega arith in ap (λ x. getD begins x 0) z ∙ e ∙ ap (λ x. total-length (take {A = List X} x [])) (sym z) }
 
   pub marked-more : (begins : List ℕ) (cells : List (List X)) (cell : List X) (m n : ℕ) → Marked begins cells → m ≡ length cells + 1 → m < length begins → n ≡ total-length (cells ++ cell ∷ []) → Marked (set begins m n) (cells ++ cell ∷ [])
@@ -66,6 +62,13 @@ module _ {X : Type 0} where
           ∙ marks .at c old
           ∙ ap total-length (sym (take-append-le c cells (cell ∷ []) old))
       ] }
+
+  -- a part stays where it is when the list grows
+  pub part-more : (begins : List ℕ) (xs more : List X) (n : ℕ) (part : List X) → Part begins xs n part → Part begins (xs ++ more) n part
+  part-more begins xs more n part h = record {
+      up = h .up;
+      within = omega (arith, h .within, length-append xs more);
+      same = ap (drop (getD begins n 0)) (take-append-le (getD begins (n + 1) 0) xs more (h .within)) ∙ h .same }
 
   -- each cell stands where the marks say
   pub part-at : (begins : List ℕ) (xs : List X) (cells : List (List X)) (more : List X) (c : ℕ) → xs ≡ joined-lists cells ++ more → Marked begins cells → c < length cells → Part begins xs c (getD cells c [])

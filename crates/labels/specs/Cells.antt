@@ -1,7 +1,7 @@
 -- Filling one cell: what stands in the tables meanwhile, and how a label is selected.
 -- Assumes nothing.
 use mathlib.Core.Path.{_≡_}
-use mathlib.Core.Bool.{Bool, cond}
+use mathlib.Core.Bool.{cond}
 use mathlib.Core.List.{List, [], _∷_, _++_}
 use Prim.Native.Nat.{ℕ, _+_, _<_, _≤_}
 use lib.ListN.{length, getD, take, drop}
@@ -10,7 +10,6 @@ use Rattle.std.specs.declared.option.Option.the-variants.{Some, None}
 use Rattle.rules.specs.Kinds.{Kind}
 use Rattle.rules.specs.Fronts.{covered}
 use Rattle.rules.specs.Instances.{price}
-use Rattle.rules.specs.Walks.{any-of}
 use Rattle.rules.specs.Offers.{Label}
 use Rattle.labels.specs.declared.cell.Cell.{Cell}
 use Rattle.labels.specs.declared.inbound.Inbound.{Inbound}
@@ -19,7 +18,7 @@ use Rattle.labels.specs.Parts.{Part}
 use Rattle.labels.specs.Picks.{picked}
 use Rattle.labels.specs.Queries.{Asked, row-of, place-count, may-take}
 use Rattle.labels.specs.Rows.{shown, shown-best, extended-by}
-use Rattle.labels.specs.Seeking.{leads-to}
+use Rattle.labels.specs.Seeking.{barred-to}
 
 -- the labels of each of the first n places of a row stand where the beginnings from base on say
 abbrev pub Runs : {C : Type 0} → List ℕ → ℕ → List (Label C) → List (List (Label C)) → ℕ → Type 0
@@ -30,10 +29,6 @@ abbrev pub Selects : {C : Type 0} → Kind C → List (LabelRow C) → Cell → 
 Selects k rows cell end best candidates r = let ls = shown (take end rows) in shown-best ls r ≡ picked k (covered k (drop (cell .start) ls)) (shown-best ls best) candidates
 
 module _ {C : Type 0} (a : Asked C) where
-  -- some constraint is on the cart's moves to p, leaving at tick t
-  abbrev pub barred-to : ℕ → ℕ → Bool
-  barred-to p t = any-of (leads-to (a .cart) p t) (a .constraints)
-
   -- what one move brings to the cell
   abbrev pub by-one : Cell → Inbound → List (Label C)
   by-one cell m = cond (may-take a (m .from) (cell .place) (cell .tick)) (extended-by (a .inst .kind) (price (a .inst) (m .line)) (cell .place) (getD (row-of a (cell .tick)) (m .from) [])) []
@@ -45,4 +40,9 @@ module _ {C : Type 0} (a : Asked C) where
     pub few : length rows ≤ 65535
     pub table : cell .base + place-count a < length starts
     pub runs : Runs starts (cell .base) (shown (take end rows)) (row-of a (cell .tick)) (place-count a)
-    pub barred : cell .barred ≡ barred-to (cell .place) (cell .tick)
+    pub barred : cell .barred ≡ barred-to a (cell .place) (cell .tick)
+
+-- after the first n rows stand those of the labels, unless there is no room for all of them
+abbrev pub Grown : {C : Type 0} → List (LabelRow C) → List (LabelRow C) → ℕ → List (Label C) → Option ℕ → Type 0
+Grown was after n ls None = length was < n + length ls
+Grown was after n ls (Some m) = (m ≤ length after) × (shown (take m after) ≡ shown (take n was) ++ ls)

@@ -1,7 +1,8 @@
 pub mod Picks
 pub mod Rows
-pub mod Seeking
 pub mod Queries
+pub mod Seeking
 pub mod Parts
 pub mod Indexes
 pub mod Cells
+pub mod Tables

@@ -6,7 +6,7 @@ use Prim.Native.Nat.{ℕ}
 use Rattle.rules.specs.Kinds.{Kind}
 use Rattle.rules.specs.Instances.{Instance, Move, places}
 use Rattle.rules.specs.Walks.{Constraint}
-use Rattle.rules.specs.Offers.{Label, may-be, may-go, candidates, kept-row}
+use Rattle.rules.specs.Offers.{Label, may-be, may-go, candidates, kept-row, label-count}
 use Rattle.carts.specs.Carts.{cart-of}
 use Rattle.labels.specs.declared.query.Query.{Query}
 
@@ -41,3 +41,7 @@ module _ {C : Type 0} (a : Asked C) where
   -- what the labels of tick t bring to p
   abbrev pub reaching : ℕ → ℕ → List (Label C)
   reaching t p = candidates (a .inst) (a .cart) (a .constraints) t (row-of t) p
+
+  -- how many labels the cart has
+  abbrev pub label-total : ℕ
+  label-total = label-count (a .inst) (a .cart) (a .constraints)

@@ -6,6 +6,7 @@ pub struct Inbound {
 }
 
 // The moves of a floor by the place reached: those that reach place `p` stand from `begins[p]` to `begins[p + 1]`.
+#[derive(Drop)]
 pub struct Index {
     pub begins: [u16; 129],
     pub moves: [Inbound; 1024],

@@ -1,8 +1,8 @@
 ghost use mathlib.Core.Path.{_≡_};
 ghost use mathlib.Core.List.{[]};
-ghost use Prim.Native.Nat.{ℕ, _+_, _≤_, _<_};
+ghost use Prim.Native.Nat.{ℕ, _+_, _≤_};
 ghost use lib.ListN.{length, getD};
-ghost use Rattle.labels.specs.Indexes.{into, inbound-of, Appended, Indexed};
+ghost use Rattle.labels.specs.Indexes.{into, inbound-of, Appended, AllIndexed};
 use crate::inbound::Inbound;
 use crate::inbound::Index;
 use floors::Floor;
@@ -42,7 +42,7 @@ fn add_all<F: Floor>(floor: &F, to: u8, moves: &mut [Inbound], n: usize) -> usiz
 
 // The moves of a floor by the place reached; within it in the order of the places left, and then of the moves' numbers.
 pub fn index_of<F: Floor>(floor: &F) -> Index
-    ensures { λ r. ⌜ ((p : ℕ) → p < length (F·Floor .moves (now (floor .entry))) → Indexed (r .begins) (r .moves) (F·Floor .moves (now (floor .entry))) p) ⌝ }
+    ensures { λ r. ⌜ AllIndexed (r .begins) (r .moves) (F·Floor .moves (now (floor .entry))) ⌝ }
 {
     let mut begins = [0u16; 129];
     let mut moves = [Inbound { from: 0, line: 0 }; 1024];

@@ -2,17 +2,16 @@ ghost use mathlib.Core.Path.{_≡_};
 ghost use Prim.Native.Nat.{ℕ, _<_};
 ghost use lib.ListN.{getD};
 ghost use Rattle.std.specs.declared.option.Option.the-variants.{None};
-ghost use Rattle.labels.specs.Queries.{asked, place-count, may-take, reaching};
+ghost use Rattle.labels.specs.Queries.{asked, place-count, reaching};
 ghost use Rattle.labels.specs.Indexes.{Indexed};
-ghost use Rattle.labels.specs.Cells.{Ready, Selects, barred-to, by-one};
+ghost use Rattle.labels.specs.Cells.{Ready, Selects, by-one};
+use crate::allowed::may_go;
 use crate::cell::Cell;
-use crate::constraints::some;
 use crate::inbound::Inbound;
 use crate::inbound::Index;
 use crate::query::Query;
 use crate::row::LabelRow;
 use crate::rows::along;
-use crate::sought::Sought;
 use carts::Constrains;
 use costs::CostKind;
 use floors::Floor;
@@ -26,15 +25,6 @@ fn price_of<C: CostKind>(tariff: &[C], line: u16) -> C
     } else {
         C::zero()
     }
-}
-
-// Whether the cart may go from one place to another, leaving at a tick; `barred` says whether any constraint is on its moves to the latter then.
-fn may_go<F: Floor, C: CostKind, B: Constrains>(query: &Query<'_, F, C, B>, barred: bool, from: u8, to: u8, tick: u8) -> bool
-    requires { ⌜ barred ≡ barred-to (asked (F·Floor .moves) (C·CostKind .kind) (B·Constrains .constraint) (now query)) to tick ⌝ }
-    ensures { λ r. ⌜ r ≡ may-take (asked (F·Floor .moves) (C·CostKind .kind) (B·Constrains .constraint) (now (query .entry))) from to tick ⌝ }
-{
-    let cart = query.cart;
-    !barred || !some(query.constraints, Sought::Crossing { cart, from, to, tick })
 }
 
 // The best so far, once the labels at the place that a move leaves have gone by it to the cell.

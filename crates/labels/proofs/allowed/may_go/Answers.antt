@@ -2,7 +2,7 @@ use mathlib.Core.Path.{_≡_, sym, ap, _∙_}
 use mathlib.Core.Bool.{not}
 use Rattle.labels.specs.Queries.{asked}
 use Rattle.labels.proofs.Seeking.{quiet-move}
-use Rattle.labels.proofs.moves.may_go.Needs as need
+use Rattle.labels.proofs.allowed.may_go.Needs as need
 
 pub returns-then-not-barred : need.returns-then-not-barred
 returns-then-not-barred g c =
