@@ -6,3 +6,4 @@ pub mod Indexing
 pub mod Moving
 pub mod Filling
 pub mod Tabling
+pub mod Offering

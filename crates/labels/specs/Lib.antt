@@ -6,3 +6,4 @@ pub mod Parts
 pub mod Indexes
 pub mod Cells
 pub mod Tables
+pub mod Landings
