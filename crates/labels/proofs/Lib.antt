@@ -7,3 +7,4 @@ pub mod Moving
 pub mod Filling
 pub mod Tabling
 pub mod Offering
+pub mod Tracing

@@ -7,3 +7,4 @@ pub mod Indexes
 pub mod Cells
 pub mod Tables
 pub mod Landings
+pub mod Arrivals

@@ -5,6 +5,7 @@ mod constraints;
 mod inbound;
 mod index;
 mod landing;
+mod landings;
 mod layer;
 mod moves;
 mod offers;
@@ -13,6 +14,7 @@ mod row;
 mod rows;
 mod sought;
 mod tables;
+mod walks;
 
 pub use query::Query;
 pub use row::LabelRow;
