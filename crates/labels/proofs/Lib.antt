@@ -8,3 +8,4 @@ pub mod Filling
 pub mod Tabling
 pub mod Offering
 pub mod Tracing
+pub mod Arriving

@@ -159,7 +159,7 @@ module _ {C : Type 0} (a : Asked C) where
     | inr ne ↦ omega (arith, total-mono s t (omega arith), ap total-length (cells-on t), total-append (cells-before a t) (row-of a t))
     ]
 
-  length-cells : (t : ℕ) → length (cells-before a t) ≡ t * place-count a
+  pub length-cells : (t : ℕ) → length (cells-before a t) ≡ t * place-count a
   unfolding cells-before
   length-cells zero = omega arith
   length-cells (suc t) = length-cells-on t ∙ omega (arith, length-cells t, suc-mul t (place-count a))

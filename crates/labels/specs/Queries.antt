@@ -6,7 +6,7 @@ use Prim.Native.Nat.{ℕ}
 use Rattle.rules.specs.Kinds.{Kind}
 use Rattle.rules.specs.Instances.{Instance, Move, places}
 use Rattle.rules.specs.Walks.{Constraint}
-use Rattle.rules.specs.Offers.{Label, may-be, may-go, candidates, kept-row, label-count}
+use Rattle.rules.specs.Offers.{Label, may-be, may-go, candidates, kept-row, label-count, offers}
 use Rattle.carts.specs.Carts.{cart-of}
 use Rattle.labels.specs.declared.query.Query.{Query}
 
@@ -45,3 +45,7 @@ module _ {C : Type 0} (a : Asked C) where
   -- how many labels the cart has
   abbrev pub label-total : ℕ
   label-total = label-count (a .inst) (a .cart) (a .constraints)
+
+  -- what it has on offer, each with the places of its walk from the horizon back
+  abbrev pub offers-of : List (Label C)
+  offers-of = offers (a .inst) (a .cart) (a .constraints)
