@@ -126,6 +126,7 @@ module _ {C : Type 0} (a : Asked C) (laws : Laws (a .inst .kind)) (bounds : Floo
       (served .0, served .1 .permitted, served .1 .same-cost, length-reverse (o .item) ∙ served .1 .long, served .1 .same-places)
 
   pub walk-promise : (n : ℕ) (was ps : List ℕ) (o : Option C) → o ≡ mapped (λ x. x .cost) (nth (offers-of a) n) → ps ≡ walked (nth (offers-of a) n) was → WalkPromise a n ps (Ok o)
-  walk-promise n was ps o answer places =
-      ((map (λ x. x .cost) (offers-of a), exact, answer ∙ nth-map (λ x. x .cost) (offers-of a) n),
-        subst (λ q. Written a q o) (sym places) (subst (Written a (walked (nth (offers-of a) n) was)) (sym answer) (written n was (nth (offers-of a) n) refl)))
+  walk-promise n was ps o answer places = (
+    (map (λ x. x .cost) (offers-of a), exact, answer ∙ nth-map (λ x. x .cost) (offers-of a) n),
+    subst (λ q. Written a q o) (sym places) (subst (Written a (walked (nth (offers-of a) n) was)) (sym answer) (written n was (nth (offers-of a) n) refl)),
+  )

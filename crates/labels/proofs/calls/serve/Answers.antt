@@ -39,7 +39,8 @@ write-walk-requires g c κs =
     record {
       long = omega (arith, c .pre .long, at .horizon);
       timely = c .in-Some .ensures tt .timely;
-      trace = ap (λ n. length (trace-at (shown (take n rows)) (c .in-Some .offer .label))) all ∙ offer-long a l at rows (c .args .starts .now) (c .args .end) (c .pre .solved) (shown (take (c .args .end) rows)) (c .in-Some .offer) (c .args .number) (c .in-Some .ensures tt .timely) found }
+      trace = ap (λ n. length (trace-at (shown (take n rows)) (c .in-Some .offer .label))) all ∙ offer-long a l at rows (c .args .starts .now) (c .args .end) (c .pre .solved) (shown (take (c .args .end) rows)) (c .in-Some .offer) (c .args .number) (c .in-Some .ensures tt .timely) found;
+    }
 
 pub returns : need.returns
 returns g c =
@@ -52,4 +53,5 @@ returns g c =
     let all : c .args .end - 0 ≡ c .args .end = omega arith in
     record {
       answer = ap (mapped (λ o. o .cost)) found;
-      written = c .write-walk .ensures ∙ ap (λ n. reverse (shown-offer l (shown (take n rows)) offer .item)) all ∙ ap (λ o. walked o was) found }
+      written = c .write-walk .ensures ∙ ap (λ n. reverse (shown-offer l (shown (take n rows)) offer .item)) all ∙ ap (λ o. walked o was) found;
+    }

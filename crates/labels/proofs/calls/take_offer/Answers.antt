@@ -24,4 +24,5 @@ returns-in-Ok g c =
     record {
       answer = ap Ok (c .serve .ensures .answer) ∙ ap (λ e. cost-of (told e o)) (sym free);
       written = c .serve .ensures .written ∙ ap (λ e. walk-of (told e o) was) (sym free);
-      promise = λ inside. walk-promise a (g .C·CostKind·met .laws) (g .F·Floor·met .bounds (c .args .query .now .floor .now)) (laid .1 .known) inside (c .args .number) was (c .serve .last .places) (c .serve .result) (c .serve .ensures .answer) (c .serve .ensures .written) }
+      promise = λ inside. walk-promise a (g .C·CostKind·met .laws) (g .F·Floor·met .bounds (c .args .query .now .floor .now)) (laid .1 .known) inside (c .args .number) was (c .serve .last .places) (c .serve .result) (c .serve .ensures .answer) (c .serve .ensures .written);
+    }
