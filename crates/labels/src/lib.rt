@@ -1,0 +1,4 @@
+mod row;
+mod rows;
+
+pub use row::LabelRow;
