@@ -1,0 +1,14 @@
+// Why a draft is not started, or a cart is not entered.
+#[derive(Clone, Copy, PartialEq, Eq, Debug)]
+pub enum DraftRefusal {
+    // the horizon is not 1 to 64
+    BadHorizon,
+    // six carts are entered, or no row is left
+    NoRow,
+    // the start or the goal is above 127
+    NoPlace,
+    // a cart starts there
+    StartTaken,
+    // a cart is to go there
+    GoalTaken,
+}

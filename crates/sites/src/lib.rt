@@ -1,0 +1,3 @@
+pub mod records;
+
+pub use records::Record;
