@@ -1,1 +1,3 @@
 pub mod Floors
+pub mod MoveLists
+pub mod MoveTables
