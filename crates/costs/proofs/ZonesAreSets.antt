@@ -37,7 +37,7 @@ same-bits (suc k) a b p q h =
     let p′ = rw pow-suc at p in
     let q′ = rw pow-suc at q in
     let high = same-bits k (a / 2) (b / 2) (omega arith) (omega arith) (λ n l.
-        ap (λ (x : ℕ). x % 2) (shr-shr a 1 n) ∙ h (1 + n) (omega arith) ∙ sym (ap (λ (x : ℕ). x % 2) (shr-shr b 1 n))) in
+    ap (λ (x : ℕ). x % 2) (shr-shr a 1 n) ∙ h (1 + n) (omega arith) ∙ sym (ap (λ (x : ℕ). x % 2) (shr-shr b 1 n))) in
     omega (arith, h 0 (omega arith))
 
 pub are-sets : AreSets

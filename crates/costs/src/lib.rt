@@ -3,6 +3,8 @@ mod kind;
 pub mod pair;
 mod pair_kind;
 mod promises;
+#[cfg(test)]
+mod tests;
 mod text;
 pub mod total;
 mod total_kind;

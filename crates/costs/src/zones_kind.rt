@@ -1,7 +1,7 @@
 ghost use Rattle.costs.specs.ZoneSets.{zones-kind, zones-text};
+use crate::digits::decimal_len;
 use crate::digits::put_decimal;
 use crate::digits::put_hex_digits;
-use crate::digits::decimal_len;
 use crate::kind::CostKind;
 use crate::text::Text;
 use crate::zones::Zones;
@@ -14,15 +14,15 @@ pub impl Text for Zones as ZonesText {
         if len <= room { Some(len) } else { None }
     }
 
+    // Asks for the length first, so that nothing is half written.
     fn write_text(&self, out: &mut [u8]) -> Option<usize> {
-        let count = self.bits.count_ones() as u64;
-        if decimal_len(count) + 17 > out.len() {
+        let Some(len) = self.text_len(out.len()) else {
             return None;
-        }
-        let len = put_decimal(count, out);
-        out[len] = b'/';
-        put_hex_digits(16, self.bits, &mut out[len + 1..]);
-        Some(len + 17)
+        };
+        let stroke = put_decimal(self.bits.count_ones() as u64, out);
+        out[stroke] = b'/';
+        put_hex_digits(16, self.bits, &mut out[stroke + 1..]);
+        Some(len)
     }
 }
 
