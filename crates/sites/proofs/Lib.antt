@@ -1,1 +1,3 @@
 mod Texts
+mod LineReads
+mod LineRecords

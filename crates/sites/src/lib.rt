@@ -1,3 +1,4 @@
+mod lines;
 pub mod records;
 
 pub use records::Record;
