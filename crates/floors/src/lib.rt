@@ -1,11 +1,18 @@
 mod floor;
-pub mod lane_row;
+mod grid_floor;
+mod lane_floor;
+mod lane_row;
 mod move_list;
 mod move_table;
-pub mod refusal;
+mod refusal;
+mod side;
 pub mod step;
 
 pub use floor::Floor;
+pub use grid_floor::GridFloor;
+pub use grid_floor::GridFloorFloor;
+pub use lane_floor::LaneFloor;
+pub use lane_floor::LaneFloorFloor;
 pub use lane_row::LaneRow;
 pub use refusal::FloorRefusal;
 pub use step::Step;

@@ -7,6 +7,8 @@ use crate::move_list::MoveList;
 mod asking;
 mod filling;
 
+pub use asking::MoveTableFloor;
+
 // The moves of every place of a floor. A step out of use reaches place 0, so that every step reaches a place of the floor.
 #[derive(Drop)]
 pub struct MoveTable {
