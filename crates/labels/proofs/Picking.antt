@@ -17,7 +17,7 @@ use Rattle.std.proofs.shelf.Tests.{cases-bool, cases-lt, both-ways, or-parts, o
 use Rattle.std.proofs.shelf.Elements.{all-push, all-weaker, all-append}
 use Rattle.rules.specs.Kinds.{Kind, Laws, AtMost, Before}
 use Rattle.rules.specs.Fronts.{Entry, covered, added, added-all, front-of}
-use Rattle.rules.proofs.Members.{Any, any-append-right, all-both}
+use Rattle.rules.proofs.Members.{Any, any-weaker}
 use Rattle.rules.proofs.Fronts.{Ranked, Covered, Uncovered, covered-true, covered-false, put, all-put, covered-put, ranked-front}
 use Rattle.labels.specs.Picks.{sooner, better, picked, dominated, last-cost, comes-after, out-of-turn}
 
@@ -169,9 +169,54 @@ module _ {C B : Type 0} (k : Kind C) (laws : Laws k) where
   all-back P [] rs h = h
   all-back P (e ∷ es) rs h = all-back P es rs (h .1)
 
+  all-part : (P : Entry C B → Type 0) (es rs : List (Entry C B)) → All P (es ++ rs) → All P es
+  all-part P [] rs h = tt
+  all-part P (e ∷ es) rs h = (h .0, all-part P es rs (h .1))
+
   ranked-free : (es : List (Entry C B)) (f : Entry C B) (rs : List (Entry C B)) → Ranked k (es ++ f ∷ rs) → covered k es (f .cost) ≡ false
   ranked-free [] f rs h = refl
   ranked-free (e ∷ es) f rs h = or-from _ _ (all-back _ es (f ∷ rs) (h .0) .0 .1) (ranked-free es f rs (h .1))
+
+  ranked-part : (es rs : List (Entry C B)) → Ranked k (es ++ rs) → Ranked k es
+  ranked-part [] rs h = tt
+  ranked-part (e ∷ es) rs h = (all-part _ es rs (h .0), ranked-part es rs (h .1))
+
+  -- the last of some of a front comes before the next
+  last-before : (o : Option C) (es : List (Entry C B)) (f : Entry C B) (rs : List (Entry C B)) → comes-after k o (f .cost) ≡ true → Ranked k (es ++ f ∷ rs) → comes-after k (last-cost k o es) (f .cost) ≡ true
+  last-before o [] f rs h r = h
+  last-before o (e ∷ es) f rs h r = last-before (Some (e .cost)) es f rs (all-back _ es (f ∷ rs) (r .0) .0 .0) (r .1)
+
+  -- what comes after the last of a front is none of it
+  not-behind : (b c : C) (es : List (Entry C B)) → (b ≡ c) ⊎ Before k c b → All (λ e. Before k c (e .cost) × (k .at-most c (e .cost) ≡ false)) es → comes-after k (last-cost k (Some b) es) c ≡ false
+  not-behind b c [] (inl e) h = rw e (not-self k laws c)
+  not-behind b c [] (inr l) h = not-back k laws c b l
+  not-behind b c (e ∷ es) o h = not-behind (e .cost) c es (inr (h .0 .0)) (h .1)
+
+  not-taken : (o : Option C) (es : List (Entry C B)) (c : C) → Ranked k es → comes-after k (last-cost k o es) c ≡ true → Any (λ e. e .cost ≡ c) es → ⊥
+  not-taken o [] c r h m = m
+  not-taken o (e ∷ es) c r h (inl s) = both-ways _ (not-behind (e .cost) (e .cost) es (inl refl) (r .0)) (subst (λ z. comes-after k (last-cost k (Some (e .cost)) es) z ≡ true) (sym s) h)
+  not-taken o (e ∷ es) c r h (inr m) = not-taken (Some (e .cost)) es c (r .1) h m
+
+  -- a cost that nothing dominates, and that some entry is at most, is that entry's
+  not-dominator : (xs : List (Entry C B)) (e : Entry C B) (c : C) → FirstIn k xs e → dominated k xs c ≡ false → AtMost k (e .cost) c → e .cost ≡ c
+  not-dominator [] e c fi h le = absurd fi
+  not-dominator (x ∷ xs) e c (inl s) h le =
+      let no = subst (λ z. (k .at-most (z .cost) c && k .before (z .cost) c) ≡ false) s (or-parts _ _ h .0) in
+      elim (at-most-cases k laws (e .cost) c le) [
+        inl same ↦ sym same
+      | inr b ↦ absurd (both-ways _ no (and-from _ _ le b))
+      ]
+  not-dominator (x ∷ xs) e c (inr p) h le = not-dominator xs e c (p .1) (or-parts _ _ h .1) le
+
+  due-equal : (xs es : List (Entry C B)) (c : C) → All (FirstIn k xs) es → dominated k xs c ≡ false → Covered k es c → Any (λ e. e .cost ≡ c) es
+  due-equal xs [] c fi h cov = cov
+  due-equal xs (e ∷ es) c fi h (inl le) = inl (not-dominator xs e c (fi .0) h le)
+  due-equal xs (e ∷ es) c fi h (inr m) = inr (due-equal xs es c (fi .1) h m)
+
+  after-rest : (f : Entry C B) (rs : List (Entry C B)) (c : C) → All (λ r. Before k (f .cost) (r .cost) × (k .at-most (f .cost) (r .cost) ≡ false)) rs → Any (λ r. r .cost ≡ c) rs → Before k (f .cost) c
+  after-rest f [] c h m = absurd m
+  after-rest f (r ∷ rs) c h (inl e) = subst (λ z. Before k (f .cost) z) e (h .0 .0)
+  after-rest f (r ∷ rs) c h (inr m) = after-rest f rs c (h .1) m
 
   module _ (xs es : List (Entry C B)) (f : Entry C B) (rs : List (Entry C B)) (is : front-of k xs ≡ es ++ f ∷ rs) where
     whole : Kept k xs (es ++ f ∷ rs)
@@ -193,6 +238,61 @@ module _ {C B : Type 0} (k : Kind C) (laws : Laws k) where
           | inr (inr m) ↦ inr (inr (late-rest f rs (x .cost) (ranked-back es (f ∷ rs) ranked .0) m))
           ]) xs (whole .covers))
 
+    -- what the front covers and is at most f, f is at most
+    reaches-next : (c : C) → Covered k (es ++ f ∷ rs) c → AtMost k c (f .cost) → AtMost k (f .cost) c
+    reaches-next c cov le = elim (any-parts _ es (f ∷ rs) cov) [
+        inl m ↦ absurd (not-covered k es (f .cost) (any-weaker _ _ (λ e l. laws .at-most-trans (e .cost) c (f .cost) l le) es m) (covered-false k es (f .cost) (ranked-free es f rs ranked)))
+      | inr (inl m) ↦ m
+      | inr (inr m) ↦
+          let later = late-rest f rs c (ranked-back es (f ∷ rs) ranked .0) m in
+          absurd (elim (at-most-cases k laws c (f .cost) le) [
+            inl e ↦ laws .before-irrefl c (subst (λ z. Before k z c) e later)
+          | inr b ↦ laws .before-irrefl c (laws .before-trans c (f .cost) c b later)
+          ])
+      ]
+
+    next-undominated : (ys : List (Entry C B)) → All (λ y. Covered k (es ++ f ∷ rs) (y .cost)) ys → dominated k ys (f .cost) ≡ false
+    next-undominated [] h = refl
+    next-undominated (y ∷ ys) h =
+        or-from _ _ (elim (cases-bool (k .at-most (y .cost) (f .cost))) [
+            inl le ↦ elim (cases-bool (k .before (y .cost) (f .cost))) [
+              inl b ↦ absurd (laws .before-irrefl (f .cost) (subst (λ z. Before k z (f .cost)) (laws .at-most-antisym (y .cost) (f .cost) le (reaches-next (y .cost) (h .0) le)) b))
+            | inr b ↦ rw (le, b)
+            ]
+          | inr no-le ↦ rw no-le
+          ]) (next-undominated ys (h .1))
+
+    -- after some of a front, the next is the first in order after the last of them that nothing dominates
+    picks-in-turn : picked k (out-of-turn k (last-cost k None es) xs) None xs ≡ Some f
+    picks-in-turn =
+        let last = last-cost k None es in
+        let in-turn : comes-after k (last-cost k None es) (f .cost) ≡ true = last-before None es f rs refl ranked in
+        let free : out-of-turn k (last-cost k None es) xs (f .cost) ≡ false = rw (in-turn, next-undominated xs (whole .covers)) in
+        picked-is k laws (out-of-turn k last xs) f None xs free tt first-next
+        (all-weaker (λ x. Covered k (es ++ f ∷ rs) (x .cost)) (Late k laws (out-of-turn k last xs) f) (λ x c. elim (cases-bool (out-of-turn k last xs (x .cost))) [
+            inl skipped ↦ inl skipped
+          | inr due ↦ inr (due-late x (or-parts _ _ due) c)
+          ]) xs (whole .covers))
+      where
+        due-late : (x : Entry C B) → (not (comes-after k (last-cost k None es) (x .cost)) ≡ false) × (dominated k xs (x .cost) ≡ false) → Covered k (es ++ f ∷ rs) (x .cost) → (x .cost ≡ f .cost) ⊎ Before k (f .cost) (x .cost)
+        due-late x due c = elim (any-parts _ es (f ∷ rs) (due-equal xs (es ++ f ∷ rs) (x .cost) (whole .first) (due .1) c)) [
+            inl m ↦ absurd (not-taken None es (x .cost) (ranked-part es (f ∷ rs) ranked) (not-false _ (due .0)) m)
+          | inr (inl e) ↦ inl (sym e)
+          | inr (inr m) ↦ inr (after-rest f rs (x .cost) (ranked-back es (f ∷ rs) ranked .0) m)
+          ]
+
+  all-out : (xs : List (Entry C B)) (ys : List (Entry C B)) → All (λ y. Covered k (front-of k xs) (y .cost)) ys → All (λ y. out-of-turn k (last-cost k None (front-of k xs)) xs (y .cost) ≡ true) ys
+  all-out xs [] h = tt
+  all-out xs (y ∷ ys) h = (
+    elim (cases-bool (out-of-turn k (last-cost k None (front-of k xs)) xs (y .cost))) [
+      inl e ↦ e
+    | inr due ↦
+        let parts = or-parts _ _ due in
+        absurd (not-taken None (front-of k xs) (y .cost) (ranked-front k laws xs) (not-false _ (parts .0)) (due-equal xs (front-of k xs) (y .cost) (front-kept k laws xs .first) (parts .1) (h .0)))
+    ],
+    all-out xs ys (h .1),
+  )
+
   module _ (xs : List (Entry C B)) (j : ℕ) where
     front-split : (d : Entry C B) → j < length (front-of k xs) → front-of k xs ≡ take j (front-of k xs) ++ getD (front-of k xs) j d ∷ drop (j + 1) (front-of k xs)
     front-split d lt = sym (take-append-drop j (front-of k xs)) ∙ ap (λ l. take j (front-of k xs) ++ l) (drop-more (front-of k xs) j d lt)
@@ -204,5 +304,15 @@ module _ {C B : Type 0} (k : Kind C) (laws : Laws k) where
       | inr ge ↦
           picked-none k laws (covered k (take j (front-of k xs))) xs
           (rw (take-all j (front-of k xs) ge) (all-weaker (λ x. Covered k (front-of k xs) (x .cost)) (λ x. covered k (front-of k xs) (x .cost) ≡ true) (λ x c. covers-true k (front-of k xs) (x .cost) c) xs (front-kept k laws xs .covers)))
+          ∙ sym (nth-past (front-of k xs) j ge)
+      ]
+
+    -- the same, with the last of them alone
+    pub picks-after : Entry C B → picked k (out-of-turn k (last-cost k None (take j (front-of k xs))) xs) None xs ≡ nth (front-of k xs) j
+    picks-after d = elim (cases-lt j (length (front-of k xs))) [
+        inl lt ↦ picks-in-turn xs (take j (front-of k xs)) (getD (front-of k xs) j d) (drop (j + 1) (front-of k xs)) (front-split d lt) ∙ sym (nth-getD (front-of k xs) j d lt)
+      | inr ge ↦
+          picked-none k laws (out-of-turn k (last-cost k None (take j (front-of k xs))) xs) xs
+          (rw (take-all j (front-of k xs) ge) (all-out xs xs (front-kept k laws xs .covers)))
           ∙ sym (nth-past (front-of k xs) j ge)
       ]
