@@ -1,4 +1,4 @@
-mod cart;
+pub mod cart;
 mod constrains;
 mod constraint;
 pub mod draft;

@@ -1,3 +1,3 @@
 mod Cells
-mod LaneTables
+pub mod LaneTables
 mod Tables

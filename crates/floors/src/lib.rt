@@ -1,10 +1,10 @@
 mod floor;
 mod grid_floor;
-mod lane_floor;
-mod lane_row;
+pub mod lane_floor;
+pub mod lane_row;
 mod move_list;
 mod move_table;
-mod refusal;
+pub mod refusal;
 mod side;
 pub mod step;
 

@@ -1,2 +1,5 @@
 pub mod Records
 pub mod Reading
+pub mod Sites
+pub mod Promises
+pub mod Holding
