@@ -6,3 +6,4 @@ mod Printing
 mod Promising
 mod Keeping
 mod CartRooms
+mod NextRecord

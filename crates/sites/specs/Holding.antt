@@ -20,7 +20,7 @@ use Rattle.sites.specs.declared.records.Record.{Record}
 use Rattle.sites.specs.declared.refusal.SiteFault.{SiteFault}
 use Rattle.sites.specs.declared.refusal.SiteFault.the-variants.{Misread}
 use Rattle.sites.specs.declared.rooms.Rooms.{Rooms}
-use Rattle.sites.specs.Sites.{SiteData, said, rank, last-rank, MayFollow, lane-fault, draft-fault, fault-of}
+use Rattle.sites.specs.Sites.{SiteData, said, last-rank, MayFollow, lane-fault, draft-fault, fault-of}
 
 -- what the reader keeps says this of a site
 pub record Holds (s : SiteData) (r : Reading) : Type 0 where
@@ -51,13 +51,18 @@ abbrev pub CartTaken : ℕ → SiteData → ℕ → ℕ → Result Reading SiteF
 CartTaken rows s start goal (Ok r) = (cart-refusal (s .carts) rows start goal ≡ None) × Holds (with-cart s (record { start = start; goal = goal })) r
 CartTaken rows s start goal (Err f) = draft-fault (cart-refusal (s .carts) rows start goal) ≡ Some f
 
+-- what the reader keeps after some records, HZ and PL among them
+pub record Keeps (before : List Record) (r : Reading) : Type 0 where
+  pub holds : Holds (said before) r
+  pub ranked : r .rank ≡ last-rank before
+  pub begun : 2 ≤ last-rank before
+
 -- a record is taken after others, or is misread there, or has a fault
 abbrev pub Took : Rooms → List Record → Record → Result Reading SiteFault → Type 0
-Took rooms before record′ (Ok r) =
-    MayFollow (last-rank before) record′
-    × (fault-of rooms before record′ ≡ None)
-    × Holds (said (before ++ record′ ∷ [])) r
-    × (r .rank ≡ rank record′)
-Took rooms before record′ (Err f) =
-    ((f ≡ Misread) × (MayFollow (last-rank before) record′ → ⊥))
-    ⊎ (MayFollow (last-rank before) record′ × (fault-of rooms before record′ ≡ Some f))
+Took rooms before next (Ok r) = MayFollow (last-rank before) next × (fault-of rooms before next ≡ None) × Keeps (before ++ next ∷ []) r
+Took rooms before next (Err f) =
+    ((f ≡ Misread) × (MayFollow (last-rank before) next → ⊥)) ⊎ (MayFollow (last-rank before) next × (fault-of rooms before next ≡ Some f))
+
+-- whatever records came before
+abbrev pub TookNext : Reading → Rooms → Record → Result Reading SiteFault → Type 0
+TookNext was rooms next r = (before : List Record) → Keeps before was → Took rooms before next r

@@ -1,34 +1,6 @@
-use mathlib.Core.Path.{_≡_, refl, sym, ap, _∙_}
-use Prim.Native.Nat.{_+_}
-use Rattle.std.proofs.shelf.Lists.{length-push}
-use Rattle.floors.specs.Lanes.{lane-count}
-use Rattle.sites.proofs.Keeping.{lane-taken, lane-means, lane-counted, lane-refused}
+use Rattle.sites.proofs.NextRecord.{lane-took}
 use Rattle.sites.proofs.reading.Reading.take_lane.Needs as need
 
-pub returns-in-Ok : need.returns-in-Ok
-returns-in-Ok c =
-    let row = c .args .row in
-    let none = c .in-Ok .ensures tt .refusal in
-    let more = c .in-Ok .ensures tt .moves in
-    record {
-      taken = λ s h.
-        ( lane-taken (s .places) (s .lanes) row _ (h .floor) (h .counted) none
-        , record {
-            horizon = h .horizon;
-            entered = h .entered;
-            carts = h .carts;
-            rows = h .rows;
-            floor = more ∙ lane-means (s .places) (s .lanes) row _ (h .floor) (h .counted) none;
-            counted = ap lane-count more ∙ lane-counted (s .places) (s .lanes) row _ (h .floor) (h .counted) none;
-            lanes = ap (λ n. n + 1) (h .lanes) ∙ sym (length-push (s .lanes) row);
-            tariff = h .tariff
-          });
-      kept = (refl, refl)
-    }
-
-pub returns-in-Err : need.returns-in-Err
-returns-in-Err c =
-    record {
-      taken = λ s h. lane-refused (s .places) (s .lanes) (c .args .row) _ (h .floor) (h .counted) (c .in-Err .why) (c .in-Err .ensures tt .refusal);
-      kept = tt
-    }
+pub returns : need.returns
+returns c before k =
+    lane-took (c .args .rooms) before (c .args .self) k (c .args .row) (c .if-self-gt3 .left) (c .if-self-rooms .left) (c .add-lane .result) (c .add-lane .ensures .taken) (c .add-lane .ensures .kept)

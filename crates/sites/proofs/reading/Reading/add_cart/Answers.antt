@@ -10,7 +10,7 @@ use Rattle.carts.specs.declared.cart.Cart.{Cart as CartRow}
 use Rattle.carts.specs.Drafts.{cart-refusal}
 use Rattle.sites.specs.Sites.{draft-fault}
 use Rattle.sites.proofs.CartRooms.{cart-room, cart-held, cart-rows}
-use Rattle.sites.proofs.reading.Reading.take_cart.Needs as need
+use Rattle.sites.proofs.reading.Reading.add_cart.Needs as need
 
 pub returns-in-Ok : need.returns-in-Ok
 returns-in-Ok c =
