@@ -7,3 +7,4 @@ mod Promising
 mod Keeping
 mod CartRooms
 mod NextRecord
+mod Reaching

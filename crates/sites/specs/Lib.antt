@@ -3,3 +3,4 @@ pub mod Reading
 pub mod Sites
 pub mod Promises
 pub mod Holding
+pub mod Heads

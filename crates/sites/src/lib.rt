@@ -1,3 +1,4 @@
+mod heads;
 mod lines;
 mod promises;
 mod reading;
