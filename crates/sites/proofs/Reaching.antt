@@ -7,9 +7,10 @@ use native.Mathlib.Omega.{arith}
 use Prim.Native.Nat.{ℕ, _+_, _-_, _<_, _≤_}
 use lib.ListN.{length, take, drop, replicate}
 use Rattle.std.specs.Joined.{joined}
-use Rattle.std.proofs.shelf.Lists.{append-assoc, append-nil, drop-drop, length-append, length-drop, length-push, take-rest}
+use Rattle.std.proofs.shelf.Lists.{append-assoc, append-nil, drop-drop, length-append, length-drop, length-push, drop-all, take-rest}
 use Rattle.std.proofs.shelf.Tests.{cond-true}
 use Rattle.std.specs.declared.option.Option.the-variants.{Some, None}
+use Rattle.std.specs.declared.result.Result.the-variants.{Ok, Err}
 use Rattle.carts.specs.declared.cart.Cart.{Cart as CartRow}
 use Rattle.carts.specs.declared.draft.Draft.{Draft}
 use Rattle.carts.specs.Drafts.{horizon-refusal}
@@ -26,9 +27,11 @@ use Rattle.sites.specs.declared.refusal.SiteFault.the-variants.{Misread}
 use Rattle.sites.specs.declared.rooms.Rooms.{Rooms}
 use Rattle.sites.specs.Records.{Fitting, numbers, numbers-text, record-text, records-text}
 use Rattle.sites.specs.Sites.{last-rank, MayFollow, EachAfter, fault-of, draft-fault, Stands, Accepted, MisreadAt, FaultAt, Refused}
-use Rattle.sites.specs.Holding.{Holds, Keeps}
-use Rattle.sites.specs.Heads.{Front, Reached}
+use Rattle.sites.specs.Holding.{Holds, Keeps, Took}
+use Rattle.sites.specs.Reading.{Front}
+use Rattle.sites.specs.Heads.{Reached, RecordsRead}
 use Rattle.sites.proofs.Printing.{joined-append}
+use Rattle.sites.proofs.Texts.{record-same}
 
 -- a record is at least three bytes long
 pub front-long : (bytes : List ℕ) (r : Record) (n : ℕ) → Front bytes r n → 3 ≤ n
@@ -96,3 +99,72 @@ module _ (rooms : Rooms) (bytes : List ℕ) (draft : Draft) (n : ℕ) (front : F
         inside = omega arith;
         few = omega arith
       }
+
+each-push : (P : List Record → Record → Type 0) (done rs : List Record) (r : Record) → EachAfter P done rs → P (done ++ rs) r → EachAfter P done (rs ++ r ∷ [])
+each-push P done [] r h p = let Q : List Record → Type 0 = λ t. P t r in (subst Q (append-nil done) p, tt)
+each-push P done (a ∷ rs) r h p =
+    let Q : List Record → Type 0 = λ t. P t r in
+    (h .0, each-push P (done ++ a ∷ []) rs r (h .1) (subst Q (sym (append-assoc done (a ∷ []) rs)) p))
+
+module _ (rooms : Rooms) (bytes : List ℕ) (at line : ℕ) (was : Reading) (h : Reached rooms bytes at line was) where
+  left-text : bytes ≡ records-text (h .before) ++ take (length bytes - at) (drop at bytes)
+  left-text = h .text ∙ ap (λ t. records-text (h .before) ++ t) (sym (rest-from bytes at))
+
+  refused-here : (f : SiteFault) → FaultAt rooms (h .before) (take (length bytes - at) (drop at bytes)) f → Refused rooms bytes line f
+  refused-here f why = record { before = h .before; left = take (length bytes - at) (drop at bytes); text = left-text; stand = h .stand; counted = h .counted; why = why }
+
+  pub misread-here : at < length bytes → ((r : Record) (more : List ℕ) → Fitting r → take (length bytes - at) (drop at bytes) ≡ record-text r ++ more → ⊥) → Refused rooms bytes line Misread
+  misread-here more none =
+      refused-here Misread
+      (inl (refl, record {
+        no-record = λ r u f m e. none r u f e;
+        no-end = λ e w. omega (arith, ap length e, ap length (rest-from bytes at), length-drop at bytes)
+      }))
+
+  module _ (r : Record) (n : ℕ) (front : Front (take (length bytes - at) (drop at bytes)) r n) where
+    pub next-refused : (f : SiteFault) → Took rooms (h .before) r (Err f) → Refused rooms bytes line f
+    next-refused f (inl t) =
+        refused-here f
+        (inl (t .0, record {
+          no-record = λ s u fits m e.
+            let same = record-same s r u (drop n (take (length bytes - at) (drop at bytes))) fits (front .fitting) (sym e ∙ front .text) .0 in
+            let P : Record → Type 0 = MayFollow (last-rank (h .before)) in
+            t .1 (subst P same m);
+          no-end = λ e w.
+            let long = front-long _ r n front in
+            let inside = front .inside in
+            omega (arith, ap length e)
+        }))
+    next-refused f (inr t) =
+        refused-here f
+        (inr (record { «record» = r; more = drop n (take (length bytes - at) (drop at bytes)); fitting = front .fitting; follows = t .0; text = front .text; refused = t .1 }))
+
+    pub next-inside : at + n ≤ length bytes
+    next-inside = let i = h .inside in let j = front .inside in omega (arith, ap length (rest-from bytes at), length-drop at bytes)
+
+    pub next-reached : (x : Reading) → Took rooms (h .before) r (Ok x) → Reached rooms bytes (at + n) (line + 1) x
+    next-reached x t =
+        let long = front-long _ r n front in
+        let few = h .few in
+        let rest = rest-from bytes at in
+        let next : drop at bytes ≡ record-text r ++ drop (at + n) bytes =
+            sym rest ∙ front .text ∙ ap (λ u. record-text r ++ u) (ap (drop n) rest ∙ drop-drop n at bytes) in
+        record {
+          before = h .before ++ r ∷ [];
+          stand = each-push (Stands rooms) [] (h .before) r (h .stand) (record { fitting = front .fitting; follows = t .0; taken = t .1 });
+          text = h .text ∙ ap (λ u. records-text (h .before) ++ u) next ∙ sym (text-push (h .before) r _);
+          keeps = t .2;
+          counted = ap (λ k. k + 1) (h .counted ∙ sym (length-push (h .before) r));
+          inside = next-inside;
+          few = omega arith
+        }
+
+  pub all-read : length bytes ≤ at → RecordsRead rooms bytes (Ok was)
+  all-read end =
+      ( h .before
+      , record {
+          text = h .text ∙ ap (λ u. records-text (h .before) ++ u) (drop-all at bytes end) ∙ append-nil (records-text (h .before));
+          stand = h .stand;
+          whole = h .keeps .begun
+        }
+      , h .keeps)

@@ -18,15 +18,10 @@ use Rattle.sites.specs.declared.records.Record.the-variants.{Horizon, Places}
 use Rattle.sites.specs.declared.refusal.SiteFault.{SiteFault}
 use Rattle.sites.specs.declared.refusal.SiteRefusal.{SiteRefusal}
 use Rattle.sites.specs.declared.rooms.Rooms.{Rooms}
-use Rattle.sites.specs.Records.{Fitting, record-text, records-text}
+use Rattle.sites.specs.Records.{records-text}
+use Rattle.sites.specs.Reading.{Front}
 use Rattle.sites.specs.Sites.{EachAfter, Stands, Accepted, FaultAt, Refused}
 use Rattle.sites.specs.Holding.{Keeps}
-
--- a record is the first n bytes
-pub record Front (bytes : List ℕ) (r : Record) (n : ℕ) : Type 0 where
-  pub fitting : Fitting r
-  pub inside : n ≤ length bytes
-  pub text : bytes ≡ record-text r ++ drop n bytes
 
 abbrev pub HorizonRead : List ℕ → Result (Draft × ℕ) SiteFault → Type 0
 HorizonRead left (Ok p) = Front left (Horizon (p .0 .horizon)) (p .1) × (horizon-refusal (p .0 .horizon) ≡ None) × (p .0 .carts ≡ 0)

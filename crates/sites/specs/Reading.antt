@@ -24,7 +24,13 @@ abbrev pub ReadNumber : List ℕ → Option (ℕ × RefT (List ℕ)) → Type 0
 ReadNumber bs (Some p) = (p .0 ≤ 65535) × (bs ≡ 32 ∷ (decimal (p .0) ++ p .1 .now)) × ((more : List ℕ) × (p .1 .now ≡ 32 ∷ more))
 ReadNumber bs None = (n : ℕ) (more : List ℕ) → n ≤ 65535 → bs ≡ 32 ∷ (decimal n ++ (32 ∷ more)) → ⊥
 
--- a record stands at the front of the bytes, so many bytes long; or none does
+-- a record is the first n bytes
+pub record Front (bytes : List ℕ) (r : Record) (n : ℕ) : Type 0 where
+  pub fitting : Fitting r
+  pub inside : n ≤ length bytes
+  pub text : bytes ≡ record-text r ++ drop n bytes
+
+-- a record stands at the front of the bytes; or none does
 abbrev pub ReadFirst : List ℕ → Option (Record × ℕ) → Type 0
-ReadFirst bs (Some p) = Fitting (p .0) × (p .1 ≤ length bs) × (bs ≡ record-text (p .0) ++ drop (p .1) bs)
+ReadFirst bs (Some p) = Front bs (p .0) (p .1)
 ReadFirst bs None = (r : Record) (more : List ℕ) → Fitting r → bs ≡ record-text r ++ more → ⊥

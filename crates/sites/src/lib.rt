@@ -1,3 +1,4 @@
+mod bodies;
 mod heads;
 mod lines;
 mod promises;

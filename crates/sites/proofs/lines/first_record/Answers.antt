@@ -14,6 +14,8 @@ sub-result c = below-within (c .args .bytes .now) (c .in-Some .line .now) (c .in
 
 pub returns : need.returns
 returns c =
-    ( c .in-Some-read-line .ensures tt .0
-    , omega arith
-    , record-front (c .args .bytes .now) (c .in-Some .line .now) (c .in-Some .below .now) (c .in-Some .ensures tt .0) (c .in-Some-read-line .record) (c .in-Some-read-line .ensures tt .1))
+    record {
+      fitting = c .in-Some-read-line .ensures tt .0;
+      inside = omega arith;
+      text = record-front (c .args .bytes .now) (c .in-Some .line .now) (c .in-Some .below .now) (c .in-Some .ensures tt .0) (c .in-Some-read-line .record) (c .in-Some-read-line .ensures tt .1)
+    }
