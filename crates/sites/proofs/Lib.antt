@@ -8,3 +8,5 @@ mod Keeping
 mod CartRooms
 mod NextRecord
 mod Reaching
+mod Filling
+mod SecondPass

@@ -4,3 +4,5 @@ pub mod Sites
 pub mod Promises
 pub mod Holding
 pub mod Heads
+pub mod Writing
+pub mod Reader
