@@ -18,7 +18,7 @@ use Rattle.carts.specs.declared.cart.Cart.{Cart as CartRow}
 use Rattle.carts.specs.declared.draft_refusal.DraftRefusal.{DraftRefusal}
 use Rattle.carts.specs.Drafts.{cart-refusal}
 
-not-refused : {X : Type 0} (b : Bool) (x : X) (o : Option X) → cond b (Some x) o ≡ None → b ≡ false
+pub not-refused : {X : Type 0} (b : Bool) (x : X) (o : Option X) → cond b (Some x) o ≡ None → b ≡ false
 not-refused true x o e = let z : _≡_ {A = ℕ} 0 1 = cc in absurd (omega arith)
 not-refused false x o e = refl
 

@@ -10,3 +10,4 @@ mod NextRecord
 mod Reaching
 mod Filling
 mod SecondPass
+mod RoomsKept

@@ -28,7 +28,7 @@ use Rattle.sites.specs.Holding.{Holds, with-lane, with-cost, with-cart, LaneTa
 use Rattle.sites.proofs.Printing.{joined-append, last-push}
 
 -- what one record more says
-part-push : {Y : Type 0} (f : Record → List Y) (before : List Record) (r : Record) → joined f (before ++ r ∷ []) ≡ joined f before ++ f r
+pub part-push : {Y : Type 0} (f : Record → List Y) (before : List Record) (r : Record) → joined f (before ++ r ∷ []) ≡ joined f before ++ f r
 part-push f before r = joined-append f before (r ∷ []) ∙ ap (λ t. joined f before ++ t) (append-nil (f r))
 
 part-same : {Y : Type 0} (f : Record → List Y) (before : List Record) (r : Record) → f r ≡ [] → joined f (before ++ r ∷ []) ≡ joined f before

@@ -17,6 +17,7 @@ use Rattle.sites.specs.Reading.{Front}
 use Rattle.sites.specs.Sites.{lanes-in, tariff-in}
 use Rattle.sites.specs.Writing.{put, filled, Writable, RowsWritten}
 use Rattle.sites.proofs.Filling.{put-filled}
+use Rattle.sites.proofs.NextRecord.{part-push}
 use Rattle.sites.proofs.Printing.{joined-append}
 use Rattle.sites.proofs.Texts.{record-same, records-same}
 
@@ -47,9 +48,6 @@ none-passed bytes lanes tariff w =
       lane-table = record { count = refl; rows = refl };
       tariff-table = record { count = refl; rows = refl }
     }
-
-part-push : {X : Type 0} (part : Record → List X) (done : List Record) (r : Record) → joined part (done ++ r ∷ []) ≡ joined part done ++ part r
-part-push part done r = joined-append part done (r ∷ []) ∙ ap (λ t. joined part done ++ t) (append-nil (part r))
 
 -- the rows of one record have room, where those of all records have
 room-for : {X : Type 0} (part : Record → List X) (done left all : List Record) (r : Record) (n rows : ℕ) → done ++ r ∷ left ≡ all → n ≡ length (joined part done) → length (joined part all) ≤ rows → n + length (part r) ≤ rows
