@@ -1,18 +1,20 @@
 -- The cells of a grid: where a neighbour stands, and the moves of the cells, added one after another.
 -- Assumes nothing.
 use mathlib.Core.Path.{_≡_, refl, sym, ap, _∙_}
-use mathlib.Core.List.{List, [], _∷_, _++_, append-assoc}
+use mathlib.Core.List.{List, [], _∷_, _++_, append-assoc, map}
 use mathlib.Core.Logic.{inl, inr}
 use Prim.Native.Nat.{ℕ, zero, suc, _+_, _-_, _*_, _/_, _%_, _<_, _≤_}
 use lib.ListN.{length, getD, set, take, replicate}
 use native.Mathlib.Nat.{add-mul, mul-comm, mul-le-mul-right, one-mul, zero-mul}
 use native.Mathlib.Omega.{arith}
+use Rattle.std.specs.Iters.{counting}
 use Rattle.std.specs.declared.option.Option.{Option}
 use Rattle.std.specs.declared.option.Option.the-variants.{Some, None}
 use Rattle.std.specs.shelf.Lists.{joined}
 use Rattle.std.proofs.shelf.Bits.{div-add-mod', div-below, mod-below}
+use Rattle.std.proofs.shelf.Counted.{fill-by-all}
 use Rattle.std.proofs.shelf.Edits.{fill-by-more}
-use Rattle.std.proofs.shelf.Lists.{append-nil, getD-set-other, getD-set-same, joined-more, length-append, length-set, length-take, set-getD, set-set, take-more}
+use Rattle.std.proofs.shelf.Lists.{append-nil, getD-set-other, getD-set-same, joined-more, length-append, length-replicate, length-set, length-take, set-getD, set-set, take-more}
 use Rattle.std.proofs.shelf.Tests.{cases-lt, cond-both}
 use Rattle.rules.specs.Instances.{Move}
 use Rattle.floors.specs.declared.side.Side.{Side}
@@ -23,12 +25,12 @@ use Rattle.floors.specs.MoveTables.{extended}
 
 wide : (width height p : ℕ) → p < width * height → 0 < width
 wide width height p h = elim (cases-lt 0 width) [
-    inl lt ↦ lt
+  | inl lt ↦ lt
   | inr le ↦
-    let z : width ≡ 0 = omega arith in
-    let none : width * height ≡ 0 = ap (λ w. w * height) z ∙ zero-mul height in
-    absurd (omega arith)
-  ]
+      let z : width ≡ 0 = omega arith in
+      let none : width * height ≡ 0 = ap (λ w. w * height) z ∙ zero-mul height in
+      absurd (omega arith)
+]
 
 one-more : (y width : ℕ) → (y + 1) * width ≡ y * width + width
 one-more y width = add-mul y 1 width ∙ ap (λ n. y * width + n) (one-mul width)
@@ -75,10 +77,10 @@ module _ (width height p : ℕ) (inside : p < width * height) where
 pub extended-none : (moves : List (List Move)) (p : ℕ) → extended moves p [] ≡ moves
 extended-none moves p = ap (set moves p) (append-nil (getD moves p [])) ∙ set-getD moves p []
 
-pub extended-at : (moves : List (List Move)) (p : ℕ) (more : List Move) → p < length moves → getD (extended moves p more) p [] ≡ getD moves p [] ++ more
+extended-at : (moves : List (List Move)) (p : ℕ) (more : List Move) → p < length moves → getD (extended moves p more) p [] ≡ getD moves p [] ++ more
 extended-at moves p more h = getD-set-same moves p (getD moves p [] ++ more) [] h
 
-pub extended-more : (moves : List (List Move)) (p : ℕ) (more again : List Move) → p < length moves → extended (extended moves p more) p again ≡ extended moves p (more ++ again)
+extended-more : (moves : List (List Move)) (p : ℕ) (more again : List Move) → p < length moves → extended (extended moves p more) p again ≡ extended moves p (more ++ again)
 extended-more moves p more again h =
     ap (λ ms. set (extended moves p more) p (ms ++ again)) (extended-at moves p more h)
     ∙ set-set moves p (getD moves p [] ++ more) ((getD moves p [] ++ more) ++ again)
@@ -108,20 +110,28 @@ module _ (f : Side → List Move) (moves : List (List Move)) (p i : ℕ) (lt : p
       let taken = length-take i sides in
       omega arith
 
--- the cells below i have their moves, and the others none yet
-
-abbrev pub Filled : (ℕ → List Move) → List (List Move) → ℕ → Type 0
-Filled f moves i = ((p : ℕ) → p < i → getD moves p [] ≡ f p) × ((p : ℕ) → i ≤ p → getD moves p [] ≡ [])
+-- of n cells, those below i have their moves, and the others none yet
+abbrev pub Filled : (ℕ → List Move) → ℕ → List (List Move) → ℕ → Type 0
+Filled f n moves i =
+    (length moves ≡ n) × ((p : ℕ) → p < i → getD moves p [] ≡ f p) × ((p : ℕ) → i ≤ p → getD moves p [] ≡ [])
 
 nothing : (n p : ℕ) → getD (replicate {A = List Move} n []) p [] ≡ []
 nothing zero p = refl
 nothing (suc n) zero = refl
 nothing (suc n) (suc p) = nothing n p
 
-pub filled-none : (f : ℕ → List Move) (n : ℕ) → Filled f (replicate n []) 0
-filled-none f n = (λ p h. absurd (omega arith), λ p h. nothing n p)
+pub filled-none : (f : ℕ → List Move) (n : ℕ) (moves : List (List Move)) → moves ≡ replicate n [] → Filled f n moves 0
+filled-none f n moves e =
+    (ap length e ∙ length-replicate n [], λ p h. absurd (omega arith), λ p h. ap (λ ms. getD ms p []) e ∙ nothing n p)
 
-pub filled-more : (f : ℕ → List Move) (moves : List (List Move)) (i : ℕ) → i < length moves → Filled f moves i → Filled f (extended moves i (f i)) (i + 1)
-filled-more f moves i lt h =
-    let first : extended moves i (f i) ≡ set moves i (f i) = ap (λ ms. set moves i (ms ++ f i)) (h .1 i (omega arith)) in
-    rw first (fill-by-more f moves i [] lt (h .0), λ p le. getD-set-other moves i p (f i) [] (λ e. omega arith) ∙ h .1 p (omega arith))
+pub filled-more : (f : ℕ → List Move) (n : ℕ) (moves moves′ : List (List Move)) (i : ℕ) → i < n → Filled f n moves i → moves′ ≡ extended moves i (f i) → Filled f n moves′ (i + 1)
+filled-more f n moves moves′ i lt h e =
+    let here : i < length moves = omega (arith, h .0) in
+    let first : moves′ ≡ set moves i (f i) = e ∙ ap (λ ms. set moves i (ms ++ f i)) (h .2 i (omega arith)) in (
+      ap length first ∙ length-set moves i (f i) ∙ h .0,
+      λ p lt′. ap (λ ms. getD ms p []) first ∙ fill-by-more f moves i [] here (h .1) p lt′,
+      λ p le. ap (λ ms. getD ms p []) first ∙ getD-set-other moves i p (f i) [] (λ same. omega arith) ∙ h .2 p (omega arith),
+    )
+
+pub filled-all : (f : ℕ → List Move) (n : ℕ) (moves : List (List Move)) (i : ℕ) → n ≤ i → Filled f n moves i → moves ≡ map f (counting 0 n)
+filled-all f n moves i le h = fill-by-all f moves n [] (h .0) (λ p lt. h .1 p (omega arith))

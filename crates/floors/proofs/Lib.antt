@@ -1,3 +1,4 @@
 mod Cells
 pub mod LaneTables
+mod Shut
 mod Tables

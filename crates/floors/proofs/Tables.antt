@@ -2,14 +2,13 @@
 -- Assumes nothing.
 use mathlib.Core.Path.{_≡_, refl, sym, ap, _∙_}
 use mathlib.Core.List.{List, [], _∷_, _++_, map}
-use mathlib.Core.Option.{Option, none, some}
+use mathlib.Core.Option.{none, some}
 use Prim.Native.Nat.{ℕ, zero, suc, _+_, _<_, _≤_, zero-le}
 use lib.ListN.{length, take, getD, set, replicate, getElem?}
 use native.Mathlib.Omega.{arith}
 use Rattle.std.specs.shelf.Lists.{All}
 use Rattle.std.proofs.shelf.Lists.{getD-map, getD-past, getD-take, length-map, length-take, length-take-le, map-push, map-set, take-more-set, take-replicate}
 use Rattle.std.proofs.shelf.Elements.{all-getD, all-map, all-set, all-take, all-weaker}
-use Rattle.rules.specs.Instances.{Move}
 use Rattle.floors.specs.declared.move_list.MoveList.{MoveList}
 use Rattle.floors.specs.declared.move_table.MoveTable.{MoveTable}
 use Rattle.floors.specs.declared.step.Step.{Step}
@@ -18,7 +17,7 @@ use Rattle.floors.specs.MoveLists.{held, reached}
 use Rattle.floors.specs.MoveTables.{extended, table-moves}
 
 -- what stands at a place of a list, and past its end
-pub at-read : {X : Type 0} (xs : List X) (k : ℕ) (d : X) → k < length xs → getElem? xs k ≡ some (getD xs k d)
+at-read : {X : Type 0} (xs : List X) (k : ℕ) (d : X) → k < length xs → getElem? xs k ≡ some (getD xs k d)
 at-read [] k d h = absurd (omega arith)
 at-read (x ∷ xs) zero d h = refl
 at-read (x ∷ xs) (suc k) d h = at-read xs k d (omega arith)
@@ -30,7 +29,7 @@ at-past (x ∷ xs) (suc k) h = at-past xs k (omega arith)
 
 -- one list
 
-pub held-length : (l : MoveList) → length (held l) ≡ l .count
+held-length : (l : MoveList) → length (held l) ≡ l .count
 held-length l =
     let le : l .count ≤ length (l .steps) = omega arith in
     length-map (take (l .count) (l .steps)) move-of ∙ length-take-le (l .count) (l .steps) le
@@ -84,7 +83,7 @@ count-at t p d h = ap length (table-at t p d h) ∙ held-length (getD (t .lists)
 few-held : (l : MoveList) → length (held l) ≤ 8
 few-held l = omega (arith, held-length l)
 
-pub all-of : {X : Type 0} (P : X → Type 0) → ((x : X) → P x) → (xs : List X) → All P xs
+all-of : {X : Type 0} (P : X → Type 0) → ((x : X) → P x) → (xs : List X) → All P xs
 all-of P h [] = tt
 all-of P h (x ∷ xs) = (h x, all-of P h xs)
 
@@ -94,15 +93,15 @@ held-inside n l h = all-map (λ m. m .to < n) move-of (take (l .count) (l .steps
 pub table-bounds : (t : MoveTable) → FloorBounds (table-moves t)
 table-bounds t =
     let steps-inside : All (λ l. All (λ s. s .to < t .places) (l .steps)) (take (t .places) (t .lists)) =
-        all-take _ (t .places) (t .lists) (lists-from (t .places) (t .lists) (t .inside)) in
+    all-take _ (t .places) (t .lists) (lists-from (t .places) (t .lists) (t .inside)) in
     record {
       some-place = rw (table-length t) (t .nonempty);
       few-places = rw (table-length t) (t .few);
       few-moves = all-map (λ ms. length ms ≤ 8) held (take (t .places) (t .lists)) (all-of _ few-held _);
       moves-inside =
-        rw (table-length t)
-        (all-map (All (λ m. m .to < t .places)) held (take (t .places) (t .lists))
-          (all-weaker _ _ (held-inside (t .places)) (take (t .places) (t .lists)) steps-inside))
+          rw (table-length t)
+          (all-map (All (λ m. m .to < t .places)) held (take (t .places) (t .lists))
+          (all-weaker _ _ (held-inside (t .places)) (take (t .places) (t .lists)) steps-inside));
     }
 
 -- a new table: nothing is held, and every step reaches place 0
@@ -133,7 +132,7 @@ new-moves n l le z =
 
 -- one move more
 
-pub held-push : (l l′ : MoveList) (s : Step) → l .count < 8 → l′ .count ≡ l .count + 1 → l′ .steps ≡ set (l .steps) (l .count) s → held l′ ≡ held l ++ move-of s ∷ []
+held-push : (l l′ : MoveList) (s : Step) → l .count < 8 → l′ .count ≡ l .count + 1 → l′ .steps ≡ set (l .steps) (l .count) s → held l′ ≡ held l ++ move-of s ∷ []
 held-push l l′ s h n e =
     let lt : l .count < length (l .steps) = omega arith in
     let both : take (l′ .count) (l′ .steps) ≡ take (l .count) (l .steps) ++ s ∷ [] = rw (n, e) (take-more-set (l .steps) (l .count) s lt) in
@@ -154,11 +153,11 @@ push-room t p d from h =
 -- the list l′ is that of place p with the step s after its own
 module _ (t : MoveTable) (p : ℕ) (d l′ : MoveList) (s : Step) (from : p < length (table-moves t)) (steps : l′ .steps ≡ set (getD (t .lists) p d .steps) (getD (t .lists) p d .count) s) where
   pub table-push : length (getD (table-moves t) p []) < 8 → l′ .count ≡ getD (t .lists) p d .count + 1
-    → map held (take (t .places) (set (t .lists) p l′)) ≡ extended (table-moves t) p (move-of s ∷ [])
+      → map held (take (t .places) (set (t .lists) p l′)) ≡ extended (table-moves t) p (move-of s ∷ [])
   table-push h n =
       let lt : p < t .places = omega (arith, table-length t) in
       let here : held l′ ≡ getD (table-moves t) p [] ++ move-of s ∷ [] =
-          held-push (getD (t .lists) p d) l′ s (push-room t p d from h) n steps ∙ ap (λ ms. ms ++ move-of s ∷ []) (sym (table-at t p d lt)) in
+      held-push (getD (t .lists) p d) l′ s (push-room t p d from h) n steps ∙ ap (λ ms. ms ++ move-of s ∷ []) (sym (table-at t p d lt)) in
       ap (map held) (take-of-set (t .places) (t .lists) p l′) ∙ map-set held (take (t .places) (t .lists)) p l′
       ∙ ap (set (table-moves t) p) here
 

@@ -24,23 +24,20 @@ abbrev pub lane-fits : List (List Move) → LaneRow → Bool
 lane-fits moves r =
     ltb (r .from) (length moves) && (ltb (r .to) (length moves) && ltb (length (getD moves (r .from) [])) 8)
 
--- how many lanes a floor has
+-- how many rows a floor has taken: each gave it one move
 abbrev pub lane-count : List (List Move) → ℕ
 lane-count moves = sumBy length moves
 
--- one row more: its number is the number of lanes before it
+-- one row more, whose number is that of the rows taken before it
 abbrev pub row-refusal : List (List Move) → LaneRow → Option (ℕ × List ℕ)
 row-refusal moves r = cond (lane-fits moves r) none (some (7, lane-count moves ∷ []))
 
--- the first refused row of a table, after the rows that were read before it
+-- the first row of the rest that does not fit a floor with the rows before it
 abbrev pub rows-refusal : ℕ → List LaneRow → List LaneRow → Option (ℕ × List ℕ)
 rows-refusal places before [] = none
 rows-refusal places before (r ∷ rest) =
     cond (lane-fits (lane-moves places before) r) (rows-refusal places (before ++ r ∷ []) rest) (some (7, length before ∷ []))
 
--- the number of places comes first
-abbrev pub size-refusal : ℕ → Option (ℕ × List ℕ)
-size-refusal places = cond (size-fits places) none (some (6, []))
-
+-- a whole table: the number of places is checked first
 abbrev pub lane-refusal : ℕ → List LaneRow → Option (ℕ × List ℕ)
 lane-refusal places rows = cond (size-fits places) (rows-refusal places [] rows) (some (6, []))

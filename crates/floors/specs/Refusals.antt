@@ -1,6 +1,6 @@
 -- The refusals of the calls that make a floor: the number and the values of each.
 -- Assumes nothing.
-use mathlib.Core.Bool.{Bool, _&&_}
+use mathlib.Core.Bool.{Bool, cond, _&&_}
 use mathlib.Core.List.{List, [], _∷_}
 use mathlib.Core.Option.{Option, none, some}
 use Prim.Native.Nat.{ℕ}
@@ -23,3 +23,6 @@ refusal-of (Err e) = some (numbered e)
 -- a floor has 1 to 128 places
 abbrev pub size-fits : ℕ → Bool
 size-fits places = leb 1 places && leb places 128
+
+abbrev pub size-refusal : ℕ → Option (ℕ × List ℕ)
+size-refusal places = cond (size-fits places) none (some (6, []))

@@ -22,7 +22,13 @@ pub struct GridFloor {
 
 const BLOCKED: u8 = 255;
 
-const SIDES: [Side; 5] = [Side::Above, Side::Left, Side::Right, Side::Below, Side::Here];
+const SIDES: [Side; 5] = [
+    Side::Above,
+    Side::Left,
+    Side::Right,
+    Side::Below,
+    Side::Here,
+];
 
 impl GridFloor {
     pub fn new(width: usize, height: usize, cells: &[u8]) -> Result<GridFloor, FloorRefusal>
@@ -72,7 +78,13 @@ fn enter(table: &mut MoveTable, cells: &[u8], from: usize, to: Option<usize>)
     };
     let line = cells[to];
     if line != BLOCKED {
-        table.push(from as u8, Step { to: to as u8, line: line as u16 });
+        table.push(
+            from as u8,
+            Step {
+                to: to as u8,
+                line: line as u16,
+            },
+        );
     }
 }
 

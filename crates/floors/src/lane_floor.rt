@@ -3,9 +3,9 @@ ghost use mathlib.Core.List.{[], _∷_};
 ghost use lib.ListN.{replicate};
 ghost use Rattle.std.specs.Results.{Cases};
 ghost use Rattle.std.specs.Vec.{made};
-ghost use Rattle.floors.specs.Lanes.{lane-count, lane-fits, lane-moves, lane-refusal, row-move, row-refusal, size-refusal};
+ghost use Rattle.floors.specs.Lanes.{lane-count, lane-fits, lane-moves, lane-refusal, row-move, row-refusal};
 ghost use Rattle.floors.specs.MoveTables.{extended, table-moves};
-ghost use Rattle.floors.specs.Refusals.{refusal-of};
+ghost use Rattle.floors.specs.Refusals.{refusal-of, size-refusal};
 use crate::floor::Floor;
 use crate::lane_row::LaneRow;
 use crate::move_table::MoveTable;
@@ -42,10 +42,13 @@ impl LaneFloor {
         if places < 1 || places > 128 {
             return Err(FloorRefusal::BadSize);
         }
-        Ok(LaneFloor { table: MoveTable::empty(places as u8), lanes: 0 })
+        Ok(LaneFloor {
+            table: MoveTable::empty(places as u8),
+            lanes: 0,
+        })
     }
 
-    // One lane more. A refused row has the number of lanes before it as its number, and leaves the floor as it was.
+    // One lane more, after those of its place. A refused row leaves the floor as it was; its number is that of the lanes before it.
     pub fn add_lane(&mut self, row: LaneRow) -> Result<(), FloorRefusal>
         ensures refusal { λ r. ⌜ refusal-of r ≡ row-refusal (table-moves (now (self .entry) .table)) row ⌝ }
         ensures moves { λ r. ⌜ Cases r (λ _. table-moves (now (self .exit) .table) ≡ extended (table-moves (now (self .entry) .table)) (row .from) (row-move row ∷ [])) (λ _. now (self .exit) ≡ now (self .entry)) ⌝ }
@@ -53,7 +56,13 @@ impl LaneFloor {
         if !self.takes(row) {
             return Err(FloorRefusal::BadRow(self.lanes));
         }
-        self.table.push(row.from as u8, Step { to: row.to as u8, line: row.line });
+        self.table.push(
+            row.from as u8,
+            Step {
+                to: row.to as u8,
+                line: row.line,
+            },
+        );
         self.lanes += 1;
         Ok(())
     }

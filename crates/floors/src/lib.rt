@@ -7,6 +7,8 @@ mod move_table;
 pub mod refusal;
 mod side;
 pub mod step;
+#[cfg(test)]
+mod tests;
 
 pub use floor::Floor;
 pub use grid_floor::GridFloor;

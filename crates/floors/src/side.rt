@@ -27,7 +27,11 @@ impl Side {
             Side::Above => if y > 0 { Some(place - width) } else { None },
             Side::Left => if x > 0 { Some(place - 1) } else { None },
             Side::Right => if x + 1 < width { Some(place + 1) } else { None },
-            Side::Below => if y + 1 < height { Some(place + width) } else { None },
+            Side::Below => if y + 1 < height {
+                Some(place + width)
+            } else {
+                None
+            },
             Side::Here => Some(place),
         }
     }

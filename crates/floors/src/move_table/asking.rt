@@ -1,4 +1,3 @@
-ghost use mathlib.Core.Path.{_≡_};
 ghost use Rattle.floors.specs.MoveTables.{table-moves};
 use crate::floor::Floor;
 use crate::move_table::MoveTable;

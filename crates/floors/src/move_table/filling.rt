@@ -1,5 +1,5 @@
 ghost use mathlib.Core.Path.{_≡_};
-ghost use mathlib.Core.List.{[], _∷_, _++_};
+ghost use mathlib.Core.List.{[], _∷_};
 ghost use Prim.Native.Nat.{_≤_, _<_};
 ghost use lib.ListN.{length, getD, replicate};
 ghost use Rattle.floors.specs.Floors.{move-of};
@@ -15,8 +15,14 @@ impl MoveTable {
         ensures { λ r. ⌜ table-moves r ≡ replicate places [] ⌝ }
     {
         let step = Step { to: 0, line: 0 };
-        let list = MoveList { count: 0, steps: [step; 8] };
-        MoveTable { places, lists: [list; 128] }
+        let list = MoveList {
+            count: 0,
+            steps: [step; 8],
+        };
+        MoveTable {
+            places,
+            lists: [list; 128],
+        }
     }
 
     // One more move of a place, after those that it has.

@@ -1,6 +1,6 @@
 use mathlib.Core.Path.{_≡_, sym, ap, subst, _∙_}
 use mathlib.Core.List.{[]}
-use Prim.Native.Nat.{ℕ, _<_, _*_}
+use Prim.Native.Nat.{_<_, _*_}
 use lib.ListN.{length, getD}
 use native.Mathlib.Omega.{arith}
 use Rattle.std.specs.Options.{Cases}
@@ -8,7 +8,7 @@ use Rattle.std.specs.shelf.Lists.{joined}
 use Rattle.std.proofs.shelf.Lists.{length-set, take-all}
 use Rattle.std.proofs.shelf.Tests.{cond-false, cond-true, eq-eqb, ne-eqb}
 use Rattle.floors.specs.declared.side.Side.the-variants.{Above}
-use Rattle.floors.specs.Grids.{entering, neighbour, side-moves, sides}
+use Rattle.floors.specs.Grids.{entering, side-moves, sides}
 use Rattle.floors.specs.MoveTables.{extended, table-moves}
 use Rattle.floors.proofs.Cells.{entering-few, extended-none, side-more, side-room}
 use Rattle.floors.proofs.Tables.{table-bounds}
@@ -17,7 +17,7 @@ use Rattle.floors.proofs.grid_floor.add_cell.Needs as need
 pub returns-then-cells-place : need.returns-then-cells-place
 returns-then-cells-place c =
     sym (ap (extended (table-moves (c .args .table .now)) (c .args .place)) (cond-true _ _ _ (eq-eqb _ _ (c .if-cells-place .taken)))
-      ∙ extended-none (table-moves (c .args .table .now)) (c .args .place))
+    ∙ extended-none (table-moves (c .args .table .now)) (c .args .place))
 
 pub loop-side-holds : need.loop-side-holds
 loop-side-holds c = sym (extended-none (table-moves (c .args .table .now)) (c .args .place))
@@ -41,14 +41,14 @@ enter-requires c κs =
     let moves = side-moves (c .args .width) (c .args .height) (c .args .cells .now) (c .args .place) in
     let here : c .args .place < length (table-moves (c .args .table .now)) = omega (arith, c .pre .places) in
     let len : length (table-moves (c .loop-side .table)) ≡ c .args .width * c .args .height =
-        ap length (c .loop-side .inv) ∙ length-set (table-moves (c .args .table .now)) (c .args .place) _ ∙ c .pre .places in
+    ap length (c .loop-side .inv) ∙ length-set (table-moves (c .args .table .now)) (c .args .place) _ ∙ c .pre .places in
     let room = side-room moves (table-moves (c .args .table .now)) (c .args .place) (c .loop-side .side-index) here (c .loop-side-test .taken)
-        (λ side. entering-few (c .args .cells .now) _) (c .pre .room) in
+    (λ side. entering-few (c .args .cells .now) _) (c .pre .room) in
     record {
       from = omega (arith, c .pre .place);
       to = subst (λ n. Cases (c .of .result) (Unit {0}) (λ p. p < n)) (sym len) (c .of .ensures .inside);
       cells = c .pre .cells ∙ sym len;
-      room = subst (λ ms. length (getD ms (c .args .place) []) < 8) (sym (c .loop-side .inv)) room
+      room = subst (λ ms. length (getD ms (c .args .place) []) < 8) (sym (c .loop-side .inv)) room;
     }
 
 pub returns : need.returns
@@ -57,4 +57,4 @@ returns c =
     let end = take-all (c .loop-side .side-index) sides (c .loop-side-test .left) in
     c .loop-side .inv
     ∙ ap (extended (table-moves (c .args .table .now)) (c .args .place))
-      (ap (joined moves) end ∙ sym (cond-false _ _ _ (ne-eqb _ _ (c .if-cells-place .left))))
+    (ap (joined moves) end ∙ sym (cond-false _ _ _ (ne-eqb _ _ (c .if-cells-place .left))))

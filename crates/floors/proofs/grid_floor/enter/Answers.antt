@@ -18,7 +18,7 @@ absent (Some n) h = absurd (h n refl)
 pub returns-in-rest : need.returns-in-rest
 returns-in-rest c =
     sym (ap (λ o. extended (table-moves (c .args .table .now)) (c .args .from) (entering (c .args .cells .now) o)) (absent (c .args .to) (c .in-rest .not-Some))
-      ∙ extended-none (table-moves (c .args .table .now)) (c .args .from))
+    ∙ extended-none (table-moves (c .args .table .now)) (c .args .from))
 
 pub cast-from : need.cast-from
 cast-from c = let bounds = table-bounds (c .args .table .now) in omega arith
@@ -32,5 +32,5 @@ cast-to c =
 pub returns-else-line : need.returns-else-line
 returns-else-line c =
     sym (ap (λ o. extended (table-moves (c .args .table .now)) (c .args .from) (entering (c .args .cells .now) o)) (c .in-Some .is)
-      ∙ ap (extended (table-moves (c .args .table .now)) (c .args .from)) (cond-true _ _ _ (eq-eqb _ _ (c .if-line .left)))
-      ∙ extended-none (table-moves (c .args .table .now)) (c .args .from))
+    ∙ ap (extended (table-moves (c .args .table .now)) (c .args .from)) (cond-true _ _ _ (eq-eqb _ _ (c .if-line .left)))
+    ∙ extended-none (table-moves (c .args .table .now)) (c .args .from))

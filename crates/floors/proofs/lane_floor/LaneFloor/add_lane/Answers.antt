@@ -1,8 +1,6 @@
 use mathlib.Core.Path.{sym, ap, _∙_}
-use mathlib.Core.List.{_∷_, []}
 use native.Mathlib.Omega.{arith}
-use Rattle.std.proofs.shelf.Tests.{and-parts, ltb-true}
-use Rattle.floors.specs.Lanes.{lane-count, lane-fits, row-move}
+use Rattle.floors.specs.Lanes.{lane-count}
 use Rattle.floors.specs.MoveTables.{table-moves}
 use Rattle.floors.proofs.LaneTables.{count-extended, count-few, fits-from, fits-to}
 use Rattle.floors.proofs.Tables.{table-bounds}
@@ -26,6 +24,6 @@ add-self c =
 pub ghost-self : need.ghost-self
 ghost-self c =
     let from = fits-from (table-moves (c .args .self .now .table)) (c .args .row) (sym (c .if-not-takes .ensures tt)) in
-    let more = ap lane-count (c .push .ensures) ∙ count-extended (table-moves (c .args .self .now .table)) (c .args .row .from) (row-move (c .args .row)) from in
+    let more = ap lane-count (c .push .ensures) ∙ count-extended (table-moves (c .args .self .now .table)) (c .args .row .from) _ from in
     let counted = c .args .self .now .counted in
     (omega arith, tt)

@@ -1,6 +1,5 @@
 use mathlib.Core.Path.{sym, ap, _∙_}
 use native.Mathlib.Omega.{arith}
-use Prim.Native.Nat.{_/_, _%_}
 use Rattle.std.specs.declared.option.Option.the-variants.{Some}
 use Rattle.std.proofs.shelf.Tests.{cond-true, lt-ltb}
 use Rattle.floors.specs.Grids.{neighbour}
@@ -20,7 +19,7 @@ returns-then-y-gt0 c =
     let cell = cell-above (c .args .width) (c .args .height) (c .args .place) (c .pre .place) (c .if-y-gt0 .taken) in
     record {
       cell = ap Some (cell .1) ∙ sym (ap (neighbour _ _ _ _) (c .in-Above .is) ∙ cond-true _ _ _ (lt-ltb _ _ (c .if-y-gt0 .taken)));
-      inside = omega arith
+      inside = omega arith;
     }
 
 pub returns-then-x-width : need.returns-then-x-width
@@ -28,7 +27,7 @@ returns-then-x-width c =
     let cell = cell-right (c .args .width) (c .args .height) (c .args .place) (c .pre .place) (c .if-x-width .taken) in
     record {
       cell = ap Some (cell .0) ∙ sym (ap (neighbour _ _ _ _) (c .in-Right .is) ∙ cond-true _ _ _ (lt-ltb _ _ (c .if-x-width .taken)));
-      inside = cell .1
+      inside = cell .1;
     }
 
 pub returns-then-y-height : need.returns-then-y-height
@@ -36,5 +35,5 @@ returns-then-y-height c =
     let cell = cell-below (c .args .width) (c .args .height) (c .args .place) (c .pre .place) (c .if-y-height .taken) in
     record {
       cell = ap Some (cell .0) ∙ sym (ap (neighbour _ _ _ _) (c .in-Below .is) ∙ cond-true _ _ _ (lt-ltb _ _ (c .if-y-height .taken)));
-      inside = cell .1
+      inside = cell .1;
     }
