@@ -1,18 +1,15 @@
 -- Texts that can be read again.
 -- Assumes nothing.
 use mathlib.Core.Path.{_≡_, refl, sym, ap, _∙_}
-use mathlib.Core.Bool.{cond, true, false}
 use mathlib.Core.List.{List, [], _∷_, _++_}
-use mathlib.Core.Logic.{_⊎_, inl, inr, ⊎-elim}
 use native.Mathlib.Omega.{arith}
-use Prim.Native.Nat.{ℕ, zero, suc, _+_, _*_, _^_, _/_, _%_, _<_, _≤_}
+use Prim.Native.Nat.{ℕ, zero, suc, _+_, _^_, _/_, _%_, _<_, _≤_}
 use native.Mathlib.Nat.{pow-suc}
-use lib.Dec.{ltb}
 use lib.ListN.{length, length-append}
 use Rattle.std.specs.shelf.Lists.{All}
 use Rattle.std.specs.Written.{decimal}
-use Rattle.std.proofs.shelf.Decimals.{decimal-by-steps, decimal-some, same-from-decimal}
-use Rattle.std.proofs.shelf.Elements.{all-push, all-weaker, all-append}
+use Rattle.std.proofs.shelf.Decimals.{decimal-by-steps, same-from-decimal}
+use Rattle.std.proofs.shelf.Elements.{all-push, all-weaker}
 use Rattle.std.proofs.shelf.Lists.{append-cancel-left, append-assoc}
 use Rattle.std.proofs.shelf.Ways.{tells}
 use Rattle.costs.specs.Texts.{Texts, Begins, ended, Apart, hex-digit, hex-digits}
@@ -47,7 +44,7 @@ pub decimal-reads-back : (m n : ℕ) (r s : List ℕ) → m < 2 ^ 64 → n < 2 ^
 decimal-reads-back m n r s p q c h e =
     same-from-decimal m n p q (until c _ _ r s (without c _ h (from-zero m p)) (without c _ h (from-zero n q)) e)
 
-pub push-same : (xs ys : List ℕ) (a b : ℕ) → xs ++ (a ∷ []) ≡ ys ++ (b ∷ []) → (xs ≡ ys) × (a ≡ b)
+push-same : (xs ys : List ℕ) (a b : ℕ) → xs ++ (a ∷ []) ≡ ys ++ (b ∷ []) → (xs ≡ ys) × (a ≡ b)
 push-same [] [] a b e = (refl, cc)
 push-same [] (y ∷ ys) a b e = absurd (omega (arith, simp length-append at (ap length e)))
 push-same (x ∷ xs) [] a b e = absurd (omega (arith, simp length-append at (ap length e)))

@@ -1,16 +1,17 @@
--- That the kind of zones is what it says of the zones: union and subset, zone by zone.
+-- That the kind of zones, and the count in their text, is what it says of the zones, zone by zone.
 -- Assumes nothing.
 use mathlib.Core.Path.{_≡_, refl, sym, ap, _∙_}
 use mathlib.Core.Logic.{_⊎_, inl, inr, ⊎-elim}
 use Prim.Native.Nat.{ℕ, zero, suc, _+_, _/_, _%_, _^_, _<_, max}
-use native.Mathlib.Nat.{pow-suc, zero-div}
+use native.Mathlib.Nat.{pow-suc, zero-div, mod-eq-of-lt}
+use native.Mathlib.Numerals.{one-add}
 use native.Mathlib.Omega.{arith}
 use lib.Bits.{bitOr, or-shr, or-step, or-lt}
-use Rattle.std.proofs.shelf.Bits.{shr-shr}
+use lib.Count.{ones, ones-cat}
+use Rattle.std.proofs.shelf.Bits.{shr-shr, pow-pos, mod-pow-add, mod-below}
 use Rattle.std.proofs.shelf.Tests.{cases-order, eqb-true, eq-eqb}
-use Rattle.rules.specs.Kinds.{AtMost}
 use Rattle.costs.specs.declared.zones.Zones.{Zones}
-use Rattle.costs.specs.ZoneSets.{zones-kind, In, AreSets}
+use Rattle.costs.specs.ZoneSets.{count-below, AreSets}
 
 or-low : (a b : ℕ) → bitOr a b % 2 ≡ max (a % 2) (b % 2)
 or-low a b = omega (arith, or-step a b)
@@ -40,6 +41,18 @@ same-bits (suc k) a b p q h =
     ap (λ (x : ℕ). x % 2) (shr-shr a 1 n) ∙ h (1 + n) (omega arith) ∙ sym (ap (λ (x : ℕ). x % 2) (shr-shr b 1 n))) in
     omega (arith, h 0 (omega arith))
 
+digit-ones : (d : ℕ) → d < 2 → ones d ≡ d
+unfolding ones
+digit-ones zero h = refl
+digit-ones (suc zero) h = refl
+digit-ones (suc (suc d)) h = absurd (omega arith)
+
+ones-below : (k : ℕ) (z : Zones) → ones (z .bits % 2 ^ k) ≡ count-below k z
+ones-below zero z = let e : z .bits % 2 ^ 0 ≡ 0 = omega arith in ap ones e ∙ digit-ones 0 (omega arith)
+ones-below (suc k) z =
+    ap (λ (n : ℕ). ones (z .bits % 2 ^ n)) (sym (one-add k)) ∙ ap ones (mod-pow-add (z .bits) 1 k) ∙ ones-cat k _ _ (mod-below (z .bits) (2 ^ k) (pow-pos k)) ∙ ap (λ (x : ℕ). x + ones (z .bits % 2 ^ k)) (digit-ones _ (omega arith))
+    ∙ ap (λ (x : ℕ). z .bits / 2 ^ k % 2 + x) (ones-below k z)
+
 pub are-sets : AreSets
 are-sets =
     record {
@@ -50,4 +63,5 @@ are-sets =
       subset = λ a b le n h. ap (λ (x : ℕ). x / 2 ^ n % 2) (sym (eqb-true _ _ le)) ∙ or-bit (a .bits) (b .bits) n ∙ by-first (a .bits / 2 ^ n) (b .bits / 2 ^ n) h;
       from-subset = λ a b h. eq-eqb _ _ (same-bits 64 _ _ (or-lt 64 (a .bits) (b .bits) (a .fits) (b .fits)) (b .fits) (λ n l.
           or-bit (a .bits) (b .bits) n ∙ nothing-more (a .bits / 2 ^ n) (b .bits / 2 ^ n) (h n l)));
+      counted = λ z. ap ones (sym (mod-eq-of-lt (z .fits))) ∙ ones-below 64 z;
     }

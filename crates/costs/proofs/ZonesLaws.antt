@@ -1,24 +1,20 @@
 -- That sets of zones keep the laws.
 -- Assumes nothing.
 use mathlib.Core.Path.{_≡_, refl, sym, ap, _∙_}
-use mathlib.Core.Logic.{_⊎_, inl, inr, ⊎-elim}
 use native.Mathlib.Omega.{arith}
 use Prim.Native.Nat.{ℕ, zero, suc, _/_, _%_, _<_, _≤_, _^_}
 use lib.Arith.{bin-ind}
 use lib.Bits.{bitOr, or-shr, or-mod, or-comm, or-self, or-add-and, and-le-r}
 use Rattle.std.proofs.shelf.Tests.{eqb-true, eq-eqb}
 use Rattle.std.proofs.shelf.Ways.{tells}
-use Rattle.std.specs.Written.{decimal}
 use Rattle.std.proofs.shelf.Decimals.{decimal-some}
 use Rattle.std.proofs.shelf.Elements.{all-append, all-weaker}
-use Rattle.std.proofs.shelf.Lists.{append-assoc, append-cancel-left}
 use lib.Count.{ones, ones-le}
-use lib.ListN.{length, length-append}
-use mathlib.Core.List.{List, [], _∷_, _++_}
+use lib.ListN.{length-append}
 use Rattle.std.specs.shelf.Lists.{All}
 use Rattle.rules.specs.Kinds.{Laws}
 use Rattle.costs.specs.Texts.{Texts, hex-digits}
-use Rattle.costs.proofs.TextLaws.{until, past, decimal-reads-back, without, from-zero, from-zero-hex, hex-digits-same}
+use Rattle.costs.proofs.TextLaws.{until, past, without, from-zero, from-zero-hex, hex-digits-same}
 use Rattle.costs.specs.declared.zones.Zones.{Zones}
 use Rattle.costs.specs.ZoneSets.{zones-same, zones-kind, zones-text}
 use Rattle.costs.proofs.SizeLaws.{less-trans, less-irrefl, less-total}
@@ -35,7 +31,7 @@ digit-assoc (suc (suc x)) y z hx hy hz = absurd (omega arith)
 by-digits : {a b : ℕ} → a / 2 ≡ b / 2 → a % 2 ≡ b % 2 → a ≡ b
 by-digits {a} {b} hi lo = omega arith
 
-pub or-assoc : (a b c : ℕ) → bitOr (bitOr a b) c ≡ bitOr a (bitOr b c)
+or-assoc : (a b c : ℕ) → bitOr (bitOr a b) c ≡ bitOr a (bitOr b c)
 or-assoc =
     bin-ind (λ (n : ℕ). (b c : ℕ) → bitOr (bitOr n b) c ≡ bitOr n (bitOr b c)) (λ b c. refl)
     (λ n ih b c. by-digits

@@ -1,8 +1,7 @@
 -- The cost that is a set of zones, one to each bit of a number: its kind, its text, and what both say of the zones.
 -- Assumes nothing.
 use mathlib.Core.Path.{_≡_}
-use mathlib.Core.Bool.{true}
-use mathlib.Core.List.{List, [], _∷_, _++_}
+use mathlib.Core.List.{List, _∷_, _++_}
 use mathlib.Core.Logic.{_⊎_}
 use mathlib.Core.HLevel.{isProp→PathP}
 use native.Mathlib.Bridge.{le-prop}
@@ -43,7 +42,12 @@ zones-text z = decimal (ones (z .bits)) ++ (47 ∷ hex-digits 16 (z .bits))
 abbrev pub In : ℕ → Zones → Type 0
 In zone z = z .bits / 2 ^ zone % 2 ≡ 1
 
--- The kind in terms of zones: zero has none, a join has those of both, at most is subset, and two sets with the same zones are the same.
+-- how many of the zones below n are in the set
+abbrev pub count-below : ℕ → Zones → ℕ
+count-below zero z = 0
+count-below (suc n) z = z .bits / 2 ^ n % 2 + count-below n z
+
+-- The kind and its text in terms of zones: zero has none, a join has those of both, at most is subset, and the count in the text is that of the zones.
 pub record AreSets : Type 0 where
   pub none : (zone : ℕ) → In zone (zones-kind .zero) → ⊥
   pub joined : (a b : Zones) (zone : ℕ) → In zone (zones-kind .join a b) → In zone a ⊎ In zone b
@@ -51,3 +55,4 @@ pub record AreSets : Type 0 where
   pub from-second : (a b : Zones) (zone : ℕ) → In zone b → In zone (zones-kind .join a b)
   pub subset : (a b : Zones) → AtMost zones-kind a b → (zone : ℕ) → In zone a → In zone b
   pub from-subset : (a b : Zones) → ((zone : ℕ) → zone < 64 → In zone a → In zone b) → AtMost zones-kind a b
+  pub counted : (z : Zones) → ones (z .bits) ≡ count-below 64 z

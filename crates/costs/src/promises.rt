@@ -9,7 +9,7 @@ pub fn texts_apart<C: Text>() -> u8
     0
 }
 
-// A join of zones is their union, and at most is subset.
+// A join of zones is their union, at most is subset, and the count in the text is how many there are.
 pub fn zones_are_sets() -> u8
     ensures { λ _. ⌜ AreSets ⌝ }
 {

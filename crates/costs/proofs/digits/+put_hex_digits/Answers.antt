@@ -1,8 +1,6 @@
-use mathlib.Core.Path.{_≡_, refl, sym, ap, _∙_}
-use mathlib.Core.List.{List, [], _∷_, _++_}
-use Prim.Native.Nat.{ℕ, _+_, _-_, _/_, _%_}
+use mathlib.Core.Path.{_≡_}
+use Prim.Native.Nat.{_+_, _-_, _/_}
 use native.Mathlib.Omega.{arith}
-use lib.ListN.{length, set, drop}
 use Rattle.costs.proofs.Puts.{length-hex-digits, hex-digits-pred, put-push}
 use Rattle.costs.specs.Texts.{hex-digits}
 use Rattle.costs.proofs.digits.+put_hex_digits.Needs as need

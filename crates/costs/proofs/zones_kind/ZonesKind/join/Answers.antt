@@ -4,7 +4,7 @@ use Rattle.costs.specs.ZoneSets.{zones-same}
 use Rattle.costs.proofs.zones_kind.ZonesKind.join.Needs as need
 
 pub ghost-result : need.ghost-result
-ghost-result c = (or-lt 64 (c .args .self .bits) (c .args .other .bits) (c .args .self .fits) (c .args .other .fits), tt)
+ghost-result c = (search (needs, or-lt), tt)
 
 pub returns : need.returns
 returns c = zones-same _ _ (search needs)
