@@ -18,7 +18,7 @@ use Rattle.floors.specs.declared.lane_floor.LaneFloor.{LaneFloor}
 use Rattle.floors.specs.Lanes.{lane-count, lane-moves}
 use Rattle.floors.specs.MoveTables.{table-moves}
 use Rattle.floors.specs.Refusals.{size-fits}
-use Rattle.floors.proofs.LaneTables.{count-none, lanes-none}
+use Rattle.floors.proofs.LaneTables.{count-none, none-from}
 use Rattle.sites.specs.declared.reading.Reading.{Reading}
 use Rattle.sites.specs.declared.records.Record.{Record}
 use Rattle.sites.specs.declared.records.Record.the-variants.{Horizon, Places}
@@ -87,7 +87,7 @@ module _ (rooms : Rooms) (bytes : List ℕ) (draft : Draft) (n : ℕ) (front : F
             entered = none;
             carts = refl;
             rows = refl;
-            floor = moves ∙ sym (lanes-none places);
+            floor = moves ∙ sym (none-from 0 places);
             counted = ap lane-count moves ∙ count-none places;
             lanes = refl;
             tariff = refl

@@ -1,9 +1,7 @@
-use floors::lane_row::LaneRowDebug;
-use floors::lane_row::LaneRowPartialEq;
 use floors::LaneRow;
 
 // One record of a site, with its numbers as they are written.
-#[derive(Clone, Copy, PartialEq, Eq, Debug)]
+#[derive(Clone, Copy)]
 pub enum Record {
     Horizon(u16),
     Places(u16),

@@ -1,5 +1,5 @@
 // How many rows the lent tables have.
-#[derive(Clone, Copy, PartialEq, Eq, Debug)]
+#[derive(Clone, Copy)]
 pub struct Rooms {
     pub lanes: usize,
     pub tariff: usize,
