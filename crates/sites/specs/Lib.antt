@@ -6,3 +6,4 @@ pub mod Holding
 pub mod Heads
 pub mod Writing
 pub mod Reader
+pub mod Refusals

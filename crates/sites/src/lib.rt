@@ -8,6 +8,8 @@ pub mod records;
 pub mod refusal;
 pub mod rooms;
 pub mod site;
+#[cfg(test)]
+mod tests;
 mod writing;
 
 pub use promises::format_stands;

@@ -1,3 +1,5 @@
+ghost use mathlib.Core.Path.{_≡_};
+ghost use Rattle.sites.specs.Refusals.{refusal-numbers};
 use carts::DraftRefusal;
 use carts::draft_refusal::DraftRefusalDebug;
 use carts::draft_refusal::DraftRefusalPartialEq;
@@ -24,4 +26,19 @@ pub enum SiteFault {
 pub struct SiteRefusal {
     pub line: u16,
     pub fault: SiteFault,
+}
+
+impl SiteRefusal {
+    // The refusal's number, its line, the number of the refusal that it carries, and that one's row; 0 where there is none.
+    pub fn numbers(self) -> [u16; 4]
+        ensures { λ r. ⌜ r ≡ refusal-numbers self ⌝ }
+    {
+        let (carried, row) = match self.fault {
+            SiteFault::TooLong | SiteFault::Misread | SiteFault::NoRow => (0, 0),
+            SiteFault::Draft(why) => (why.number(), 0),
+            SiteFault::Floor(FloorRefusal::BadSize) => (6, 0),
+            SiteFault::Floor(FloorRefusal::BadRow(row)) => (7, row),
+        };
+        [20, self.line, carried, row]
+    }
 }
