@@ -6,6 +6,10 @@ use crate::cart::Cart;
 use crate::draft::Draft;
 use crate::draft_refusal::DraftRefusal;
 
+const MOST_TICKS: u16 = 64;
+const MOST_CARTS: usize = 6;
+const LAST_PLACE: u16 = 127;
+
 // Whether a cart starts at one place, and whether a cart goes to the other.
 fn taken(rows: &[Cart], start: u16, goal: u16) -> (bool, bool)
     ensures start { λ r. ⌜ r .0 ≡ start-among start (now (rows .entry)) ⌝ }
@@ -29,7 +33,7 @@ impl Draft {
     pub fn start(horizon: u16) -> Result<Draft, DraftRefusal>
         ensures { λ r. ⌜ Started horizon r ⌝ }
     {
-        if horizon < 1 || horizon > 64 {
+        if horizon < 1 || horizon > MOST_TICKS {
             return Err(DraftRefusal::BadHorizon);
         }
         Ok(Draft { horizon: horizon as u8, carts: 0 })
@@ -53,10 +57,10 @@ impl Draft {
         ensures { λ r. ⌜ Entered self (now (rows .entry)) start goal (now (rows .exit)) r ⌝ }
     {
         let row = self.carts as usize;
-        if row >= 6 || row >= rows.len() {
+        if row >= MOST_CARTS || row >= rows.len() {
             return Err((self, DraftRefusal::NoRow));
         }
-        if start > 127 || goal > 127 {
+        if start > LAST_PLACE || goal > LAST_PLACE {
             return Err((self, DraftRefusal::NoPlace));
         }
         let (starts, goals) = taken(&rows[0..row], start, goal);

@@ -9,6 +9,11 @@ use crate::refusal::SiteFault;
 use crate::rooms::Rooms;
 use floors::LaneRow;
 
+// The ranks of the records from the third on.
+const LANE: u8 = 3;
+const LINE: u8 = 4;
+const CART: u8 = 5;
+
 impl Reading {
     // One record more, if it may follow, has its rows, and is not refused by its call.
     pub fn take(self, record: Record, rooms: Rooms) -> Result<Reading, SiteFault>
@@ -27,7 +32,7 @@ impl Reading {
     fn take_lane(self, row: LaneRow, rooms: Rooms) -> Result<Reading, SiteFault>
         ensures { λ r. ⌜ TookNext self rooms (Record.Lane row) r ⌝ }
     {
-        if self.rank > 3 {
+        if self.rank > LANE {
             return Err(SiteFault::Misread);
         }
         if self.lanes >= rooms.lanes {
@@ -39,7 +44,7 @@ impl Reading {
     fn take_both(self, row: LaneRow, rooms: Rooms) -> Result<Reading, SiteFault>
         ensures { λ r. ⌜ TookNext self rooms (Record.BothLanes row) r ⌝ }
     {
-        if self.rank > 3 {
+        if self.rank > LANE {
             return Err(SiteFault::Misread);
         }
         if rooms.lanes.saturating_sub(self.lanes) < 2 {
@@ -59,7 +64,7 @@ impl Reading {
     {
         let Reading { draft, mut floor, carts, lanes, tariff, rank: _ } = self;
         match floor.add_lane(row) {
-            Ok(()) => Ok(Reading { draft, floor, carts, lanes: lanes + 1, tariff, rank: 3 }),
+            Ok(()) => Ok(Reading { draft, floor, carts, lanes: lanes + 1, tariff, rank: LANE }),
             Err(why) => Err(SiteFault::Floor(why)),
         }
     }
@@ -67,14 +72,14 @@ impl Reading {
     fn take_line(self, total: u16, worst: u16, rooms: Rooms) -> Result<Reading, SiteFault>
         ensures { λ r. ⌜ TookNext self rooms (Record.Tariff total worst) r ⌝ }
     {
-        if self.rank > 4 {
+        if self.rank > LINE {
             return Err(SiteFault::Misread);
         }
         if self.tariff >= rooms.tariff {
             return Err(SiteFault::NoRow);
         }
         let Reading { draft, floor, carts, lanes, tariff, rank: _ } = self;
-        Ok(Reading { draft, floor, carts, lanes, tariff: tariff + 1, rank: 4 })
+        Ok(Reading { draft, floor, carts, lanes, tariff: tariff + 1, rank: LINE })
     }
 
     // A cart in a table of so many rows.
@@ -85,7 +90,7 @@ impl Reading {
         let Reading { draft, floor, mut carts, lanes, tariff, rank: _ } = self;
         let room = rows.min(6);
         match draft.add_cart(&mut carts[0..room], start, goal) {
-            Ok(draft) => Ok(Reading { draft, floor, carts, lanes, tariff, rank: 5 }),
+            Ok(draft) => Ok(Reading { draft, floor, carts, lanes, tariff, rank: CART }),
             Err(refused) => Err(SiteFault::Draft(refused.1)),
         }
     }

@@ -35,7 +35,7 @@ returns-in-Ok c =
         ∙ ap (λ n. take n (c .in-Ok .reading .carts) ++ postOf 0 n (c .args .carts .now)) count
         ∙ ap (λ t. t ++ postOf 0 (length (said rs .carts)) (c .args .carts .now)) (h .carts) in
     record {
-      short = c .if-bytes-gt16384 .left;
+      short = c .if-bytes-gt-MOST-BYTES .left;
       records = rs;
       accepted = read .1;
       written = λ i. record { lanes = lanes i; tariff = tariff i; carts = carts i };
