@@ -1,8 +1,8 @@
 -- A flag that a loop over carts raises where one has a place.
 -- Assumes nothing.
-use mathlib.Core.Path.{_≡_, refl, sym, ap, _∙_}
+use mathlib.Core.Path.{_≡_, refl, sym, ap}
 use mathlib.Core.Bool.{Bool, true, false, _||_}
-use mathlib.Core.List.{List, [], _∷_}
+use mathlib.Core.List.{List}
 use Prim.Native.Nat.{ℕ, _+_, _<_, _≤_}
 use lib.Dec.{eqb}
 use lib.ListN.{length, getD, drop}
@@ -36,7 +36,7 @@ module _ (end : Cart → ℕ) (place : ℕ) (cs : List Cart) (i : ℕ) (flag who
   among-passed d h other left same e =
       let n = next d h in
       let u : (flag || (eqb (end (getD cs i d)) place || among end place (drop (i + 1) cs))) ≡ (flag || among end place (drop (i + 1) cs)) =
-          ap (λ b. flag || (b || among end place (drop (i + 1) cs))) (ne-eqb (end (getD cs i d)) place other) in
+      ap (λ b. flag || (b || among end place (drop (i + 1) cs))) (ne-eqb (end (getD cs i d)) place other) in
       cc
 
   pub among-all : length cs ≤ i → (flag || among end place (drop i cs)) ≡ whole → flag ≡ whole

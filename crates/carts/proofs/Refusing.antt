@@ -1,10 +1,10 @@
 -- Which check of a cart fails first.
 -- Assumes nothing.
-use mathlib.Core.Path.{_≡_, refl, sym, ap, _∙_}
+use mathlib.Core.Path.{_≡_, ap, _∙_}
 use mathlib.Core.Bool.{Bool, true, false, cond, _||_}
 use mathlib.Core.List.{List}
 use mathlib.Core.Logic.{_⊎_, inl, inr}
-use Prim.Native.Nat.{ℕ, _+_, _<_, _≤_, min}
+use Prim.Native.Nat.{ℕ, _<_, _≤_}
 use native.Mathlib.Omega.{arith}
 use lib.Dec.{leb, ltb}
 use lib.ListN.{length, take}
@@ -12,7 +12,7 @@ use Rattle.std.specs.declared.option.Option.the-variants.{Some, None}
 use Rattle.std.proofs.shelf.Lists.{length-take-le, take-all}
 use Rattle.std.proofs.shelf.Tests.{cases-lt, or-left, or-right, or-from, lt-ltb, le-ltb, le-leb, lt-leb, cond-true, cond-false}
 use Rattle.carts.specs.declared.cart.Cart.{Cart}
-use Rattle.carts.specs.declared.draft_refusal.DraftRefusal.the-variants.{BadHorizon, NoRow, NoPlace, StartTaken, GoalTaken}
+use Rattle.carts.specs.declared.draft_refusal.DraftRefusal.the-variants.{NoRow, NoPlace, StartTaken, GoalTaken}
 use Rattle.carts.specs.Drafts.{start-among, goal-among, cart-refusal}
 
 module _ (rows : List Cart) (n start goal : ℕ) where
@@ -25,10 +25,11 @@ module _ (rows : List Cart) (n start goal : ℕ) where
   full-if : (6 ≤ n) ⊎ (length rows ≤ n) → full ≡ true
   unfolding full
   full-if h = elim (cases-lt n (length rows)) [
-      inl l ↦ let k = length-take-le n rows (omega arith) in
-          or-left (leb 6 (length (take n rows))) _ (le-leb 6 _ (elim h [ inl a ↦ omega arith | inr b ↦ absurd (omega arith) ]))
+    | inl l ↦ let k = length-take-le n rows (omega arith) in
+        or-left (leb 6 (length (take n rows))) _ (le-leb 6 _ (elim h [ inl a ↦ omega arith | inr b ↦ absurd (omega arith) ]))
     | inr l ↦ let k = ap length (take-all n rows l) in
-          or-right (leb 6 (length (take n rows))) _ (le-leb (length rows) _ (omega arith)) ]
+        or-right (leb 6 (length (take n rows))) _ (le-leb (length rows) _ (omega arith))
+  ]
 
   pub refused-full : (6 ≤ n) ⊎ (length rows ≤ n) → cart-refusal (take n rows) (length rows) start goal ≡ Some NoRow
   unfolding full

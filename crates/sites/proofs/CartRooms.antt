@@ -1,21 +1,20 @@
 -- A cart entered in the reader's own rows, as many of them as the lent table has. Assumes nothing.
-use mathlib.Core.Path.{_≡_, refl, sym, ap, _∙_, subst}
+use mathlib.Core.Path.{_≡_, refl, sym, ap, _∙_}
 use mathlib.Core.Bool.{Bool, true, false, cond, _||_}
 use mathlib.Core.List.{List, [], _∷_, _++_}
-use mathlib.Core.Logic.{_⊎_, inl, inr}
+use mathlib.Core.Logic.{inl, inr}
 use native.Mathlib.Omega.{arith}
 use native.Mathlib.Nat.{min-eq-left, min-eq-right}
 use Prim.Native.Nat.{ℕ, _+_, _<_, _≤_, min}
 use borrow.Rule.Slice.PartMut.{postOf}
 use lib.Dec.{leb}
-use lib.ListN.{length, take, drop, set}
+use lib.ListN.{length, take, set}
 use Rattle.std.proofs.shelf.Lists.{length-append, length-drop, length-set, length-take-le, take-all, take-append-le, take-more-set, take-take, length-push}
 use Rattle.std.proofs.shelf.Tests.{cases-lt, cond-true, le-leb, leb-false, or-parts, or-right}
 use Rattle.std.proofs.shelf.Ways.{tells}
 use Rattle.std.specs.declared.option.Option.{Option}
 use Rattle.std.specs.declared.option.Option.the-variants.{Some, None}
 use Rattle.carts.specs.declared.cart.Cart.{Cart as CartRow}
-use Rattle.carts.specs.declared.draft_refusal.DraftRefusal.{DraftRefusal}
 use Rattle.carts.specs.Drafts.{cart-refusal}
 
 pub not-refused : {X : Type 0} (b : Bool) (x : X) (o : Option X) → cond b (Some x) o ≡ None → b ≡ false
@@ -28,25 +27,28 @@ cond-same a b x y e = ap (λ t. cond t x y) e
 module _ (es cs : List CartRow) (k rows start goal : ℕ) (held : take (length es) cs ≡ es) (six : length cs ≡ 6) (room : k ≡ min rows 6) where
   few : length es ≤ 6
   few = elim (cases-lt (length cs) (length es)) [
-      inl l ↦ let a = ap length (take-all (length es) cs (omega arith)) in let b = ap length held in absurd (omega arith)
-    | inr l ↦ omega arith ]
+    | inl l ↦ let a = ap length (take-all (length es) cs (omega arith)) in let b = ap length held in absurd (omega arith)
+    | inr l ↦ omega arith
+  ]
 
   short : (k ≤ 6) × ((6 ≤ rows → k ≡ 6) × (rows ≤ 6 → k ≡ rows))
   short = elim (cases-lt rows 6) [
-      inl l ↦ let e = min-eq-left {n = rows} {m = 6} (omega arith) in (omega arith, ((λ h. omega arith), (λ h. omega arith)))
-    | inr l ↦ let e = min-eq-right {n = 6} {m = rows} l in (omega arith, ((λ h. omega arith), (λ h. omega arith))) ]
+    | inl l ↦ let e = min-eq-left {n = rows} {m = 6} (omega arith) in (omega arith, ((λ h. omega arith), (λ h. omega arith)))
+    | inr l ↦ let e = min-eq-right {n = 6} {m = rows} l in (omega arith, ((λ h. omega arith), (λ h. omega arith)))
+  ]
 
   full-same : (leb 6 (length es) || leb k (length es)) ≡ (leb 6 (length es) || leb rows (length es))
   full-same = let f = few in elim (cases-lt rows 6) [
-      inl l ↦ let e : k ≡ rows = short .1 .1 (omega arith) in ap (λ n. leb 6 (length es) || leb n (length es)) e
-    | inr l ↦ let e : k ≡ 6 = short .1 .0 l in grind (arith, tells) ]
+    | inl l ↦ let e : k ≡ rows = short .1 .1 (omega arith) in ap (λ n. leb 6 (length es) || leb n (length es)) e
+    | inr l ↦ let e : k ≡ 6 = short .1 .0 l in grind (arith, tells)
+  ]
 
   whole : length (take k cs) ≡ k
   whole = let s = short .0 in length-take-le k cs (omega arith)
 
   pub cart-room : cart-refusal (take (length es) (take k cs)) (length (take k cs)) start goal ≡ cart-refusal es rows start goal
   cart-room = elim (cases-lt k (length es)) [
-      inl l ↦
+    | inl l ↦
         let w = whole in
         let f = few in
         let L : ℕ = length (take (length es) (take k cs)) in
@@ -57,7 +59,8 @@ module _ (es cs : List CartRow) (k rows start goal : ℕ) (held : take (length e
     | inr l ↦
         (λ i. cart-refusal (take-take (length es) k cs l i) (whole i) start goal)
         ∙ ap (λ (ds : List CartRow). cart-refusal ds k start goal) held
-        ∙ cond-same _ _ _ _ full-same ]
+        ∙ cond-same _ _ _ _ full-same
+  ]
 
   -- a cart that is not refused has a row
   row-left : cart-refusal es rows start goal ≡ None → length es < k

@@ -4,9 +4,9 @@ use mathlib.Core.List.{List, [], _∷_, _++_}
 use native.Mathlib.Omega.{arith}
 use native.Mathlib.Nat.{add-zero}
 use native.Mathlib.Numerals.{add-one}
-use Prim.Native.Nat.{ℕ, suc, _+_, _<_, _≤_}
+use Prim.Native.Nat.{ℕ, suc, _+_, _<_}
 use lib.ListN.{length, take, drop, set}
-use Rattle.std.proofs.shelf.Lists.{append-assoc, drop-at, drop-drop, drop-set, length-append, length-set, set-split, take-append-drop, take-at, take-set, take-set-le, take-more-set, drop-set-lt}
+use Rattle.std.proofs.shelf.Lists.{append-assoc, drop-at, drop-drop, length-append, length-set, set-split, take-append-drop, take-at, take-more-set, drop-set-lt}
 use Rattle.sites.specs.Writing.{put, filled}
 
 module _ {X : Type 0} (table : List X) (n : ℕ) where
@@ -31,8 +31,8 @@ put-filled xs ys table =
     let size = length-append xs ys in
     ap (λ t. t ++ (ys ++ drop (length xs + length ys) (filled xs table))) (take-at xs (drop (length xs) table) (length xs) refl)
     ∙ ap (λ t. xs ++ (ys ++ t))
-        ( sym (drop-drop (length ys) (length xs) (filled xs table))
-        ∙ ap (drop (length ys)) (drop-at xs (drop (length xs) table) (length xs) refl)
-        ∙ drop-drop (length ys) (length xs) table
-        ∙ ap (λ m. drop m table) (sym size))
+    (sym (drop-drop (length ys) (length xs) (filled xs table))
+    ∙ ap (drop (length ys)) (drop-at xs (drop (length xs) table) (length xs) refl)
+    ∙ drop-drop (length ys) (length xs) table
+    ∙ ap (λ m. drop m table) (sym size))
     ∙ sym (append-assoc xs ys (drop (length (xs ++ ys)) table))

@@ -1,6 +1,7 @@
 mod Texts
 mod LineReads
 mod LineRecords
+mod RecordLists
 mod Outcomes
 mod Printing
 mod Promising

@@ -2,18 +2,17 @@
 use mathlib.Core.Path.{_≡_, refl, sym, ap, _∙_, subst}
 use mathlib.Core.List.{List, [], _∷_, _++_}
 use native.Mathlib.Omega.{arith}
-use Prim.Native.Nat.{ℕ, _^_, _<_, _≤_, _+_, _-_}
+use Prim.Native.Nat.{ℕ, _<_, _≤_, _-_}
 use lib.ListN.{length, getD, take, drop}
 use Rattle.std.specs.Reads.{value}
-use Rattle.std.specs.Text.{In}
 use Rattle.std.specs.Written.{decimal}
 use Rattle.std.specs.declared.option.Option.{Option}
 use Rattle.std.specs.declared.option.Option.the-variants.{Some, None}
-use Rattle.std.specs.declared.result.Result.the-variants.{Ok, Err}
+use Rattle.std.specs.declared.result.Result.the-variants.{Err}
 use Rattle.std.specs.shelf.Lists.{All}
 use Rattle.std.proofs.shelf.Decimals.{value-decimal}
 use Rattle.std.proofs.shelf.Elements.{all-weaker}
-use Rattle.std.proofs.shelf.Lists.{append-nil, append-assoc, append-cancel-left, drop-more, take-rest, drop-at, length-append}
+use Rattle.std.proofs.shelf.Lists.{append-nil, drop-more, take-rest, drop-at, length-append}
 use Rattle.digits.specs.declared.numbers.ReadFault.{ReadFault}
 use Rattle.digits.specs.declared.numbers.ReadFault.the-variants.{Malformed, TooLarge}
 use Rattle.digits.specs.Numbers.{NumberRead}

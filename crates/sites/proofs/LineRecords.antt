@@ -3,7 +3,7 @@ use mathlib.Core.Path.{_≡_, refl, sym, ap, _∙_, subst}
 use mathlib.Core.Bool.{cond}
 use mathlib.Core.List.{List, [], _∷_, _++_}
 use native.Mathlib.Omega.{arith}
-use Prim.Native.Nat.{ℕ, _<_, _≤_, _+_, _-_}
+use Prim.Native.Nat.{ℕ, _<_, _≤_, _-_}
 use lib.Dec.{eqb}
 use lib.ListN.{length, getD, take, drop}
 use Rattle.std.specs.shelf.Lists.{All}
@@ -74,11 +74,12 @@ none-three bs a b rest three e none = none-marked bs a b rest e (λ ns l. go ns 
 -- no line has a newline in it
 numbers-plain : (ns : List ℕ) → All (λ n. n ≤ 65535) ns → Without 10 (numbers-text ns)
 numbers-plain [] h = tt
-numbers-plain (n ∷ ns) h =
-    ( (λ e. omega arith)
-    , all-append (λ x. x ≡ 10 → ⊥) (decimal n) (numbers-text ns)
-        (all-weaker (λ x. 48 ≤ x) (λ x. x ≡ 10 → ⊥) (λ x k e. omega arith) (decimal n) (from-zero n (omega (arith, h .0))))
-        (numbers-plain ns (h .1)))
+numbers-plain (n ∷ ns) h = (
+  (λ e. omega arith),
+  all-append (λ x. x ≡ 10 → ⊥) (decimal n) (numbers-text ns)
+      (all-weaker (λ x. 48 ≤ x) (λ x. x ≡ 10 → ⊥) (λ x k e. omega arith) (decimal n) (from-zero n (omega (arith, h .0))))
+      (numbers-plain ns (h .1)),
+)
 
 mark-above : (r : Record) → (10 < mark-first r) × (10 < mark-second r)
 mark-above (Horizon h) = (omega arith, omega arith)
@@ -113,7 +114,7 @@ module _ (bs line below : List ℕ) (e : bs ≡ line ++ (10 ∷ below)) where
   record-front r f =
       let whole : bs ≡ (line ++ (10 ∷ [])) ++ below = e ∙ sym (append-assoc line (10 ∷ []) below) in
       let long : length (line ++ (10 ∷ [])) ≡ length bs - length below =
-          omega (arith, ap length e, length-append line (10 ∷ below), length-append line (10 ∷ [])) in
+      omega (arith, ap length e, length-append line (10 ∷ below), length-append line (10 ∷ [])) in
       let after : drop (length bs - length below) bs ≡ below =
-          ap (drop (length bs - length below)) whole ∙ drop-at (line ++ (10 ∷ [])) below (length bs - length below) long in
+      ap (drop (length bs - length below)) whole ∙ drop-at (line ++ (10 ∷ [])) below (length bs - length below) long in
       whole ∙ ap (λ t. (t ++ (10 ∷ [])) ++ below) f ∙ ap (λ t. record-text r ++ t) (sym after)

@@ -1,18 +1,17 @@
 -- Bytes are read in one way only. Assumes nothing.
 use mathlib.Core.Path.{_≡_, refl, sym, ap, _∙_, subst}
 use mathlib.Core.List.{List, [], _∷_, _++_}
-use mathlib.Core.Logic.{_⊎_, inl, inr}
+use mathlib.Core.Logic.{inl, inr}
 use native.Mathlib.Omega.{arith}
-use Prim.Native.Nat.{ℕ, _+_, _≤_}
+use Prim.Native.Nat.{ℕ, _≤_}
 use Rattle.std.specs.declared.option.Option.{Option}
 use Rattle.std.specs.declared.option.Option.the-variants.{Some, None}
 use Rattle.std.proofs.shelf.Lists.{append-assoc, append-nil}
 use Rattle.sites.specs.declared.records.Record.{Record}
 use Rattle.sites.specs.declared.refusal.SiteFault.{SiteFault}
-use Rattle.sites.specs.declared.refusal.SiteFault.the-variants.{Misread}
 use Rattle.sites.specs.declared.rooms.Rooms.{Rooms}
-use Rattle.sites.specs.Records.{Fitting, record-text, records-text}
-use Rattle.sites.specs.Sites.{last-rank, MayFollow, EachAfter, fault-of, Stands, Accepted, MisreadAt, RefusedAt, FaultAt, Refused}
+use Rattle.sites.specs.Records.{record-text, records-text}
+use Rattle.sites.specs.Sites.{last-rank, EachAfter, fault-of, Stands, RefusedAt, FaultAt}
 use Rattle.sites.proofs.Texts.{record-same}
 
 module _ (rooms : Rooms) where
@@ -71,6 +70,6 @@ module _ (rooms : Rooms) where
       let Q : List Record → Type 0 = λ t. Ends t m p in
       let Q′ : Record → Type 0 = λ r. Ends ((done ++ r ∷ []) ++ ss) m p in
       let more = one-way (done ++ a ∷ []) rs ss l m o p (sa .1) (subst S (sym (one .0)) (sb .1)) (one .1)
-            (subst P (sym (append-assoc done (a ∷ []) rs)) ea)
-            (subst Q′ (sym (one .0)) (subst Q (sym (append-assoc done (b ∷ []) ss)) eb)) in
+      (subst P (sym (append-assoc done (a ∷ []) rs)) ea)
+      (subst Q′ (sym (one .0)) (subst Q (sym (append-assoc done (b ∷ []) ss)) eb)) in
       ((λ i. one .0 i ∷ more .0 i), more .1)

@@ -3,31 +3,21 @@ use mathlib.Core.Path.{_≡_, refl, sym, ap, _∙_, subst}
 use mathlib.Core.List.{List, [], _∷_, _++_, map}
 use native.Mathlib.Omega.{arith}
 use native.Mathlib.Nat.{min-eq-left}
-use Prim.Native.Nat.{ℕ, _+_, _≤_, min}
+use Prim.Native.Nat.{ℕ, _≤_}
 use Rattle.std.specs.Joined.{joined}
 use Rattle.std.specs.shelf.Lists.{All}
-use Rattle.std.proofs.shelf.Lists.{append-assoc, append-nil, map-id}
+use Rattle.std.proofs.shelf.Lists.{append-assoc, append-nil}
 use Rattle.costs.specs.declared.pair.Pair.{Pair}
 use Rattle.costs.specs.declared.total.Total.{Total}
 use Rattle.costs.specs.declared.worst.Worst.{Worst}
 use Rattle.costs.specs.Totals.{total-same}
 use Rattle.costs.specs.Worsts.{worst-same}
-use Rattle.carts.specs.declared.cart.Cart.{Cart as CartRow}
-use Rattle.floors.specs.declared.lane_row.LaneRow.{LaneRow}
 use Rattle.sites.specs.declared.records.Record.{Record}
 use Rattle.sites.specs.declared.records.Record.the-variants.{Horizon, Places, Lane, BothLanes, Tariff, Cart}
-use Rattle.sites.specs.Records.{Fitting, records-text}
-use Rattle.sites.specs.Sites.{cost-of, horizons-in, places-in, lanes-in, tariff-in, carts-in, SiteData, said, rank, last-rank, MayFollow, EachAfter, Placed, WellFormed, Says}
-use Rattle.sites.specs.Promises.{tariff-record, cart-record, site-records, site-text}
-
-pub last-push : (rs : List Record) (r : Record) → last-rank (rs ++ r ∷ []) ≡ rank r
-last-push [] r = refl
-last-push (a ∷ []) r = refl
-last-push (a ∷ (b ∷ rs)) r = last-push (b ∷ rs) r
-
-pub joined-append : {X Y : Type 0} (f : X → List Y) (xs ys : List X) → joined f (xs ++ ys) ≡ joined f xs ++ joined f ys
-joined-append f [] ys = refl
-joined-append f (x ∷ xs) ys = ap (λ t. f x ++ t) (joined-append f xs ys) ∙ sym (append-assoc (f x) (joined f xs) (joined f ys))
+use Rattle.sites.specs.Records.{Fitting}
+use Rattle.sites.specs.Sites.{cost-of, lanes-in, tariff-in, carts-in, SiteData, said, rank, last-rank, MayFollow, EachAfter, Placed, WellFormed}
+use Rattle.sites.proofs.RecordLists.{joined-append, last-push}
+use Rattle.sites.specs.Promises.{tariff-record, cart-record, site-records}
 
 joined-none : {X Y Z : Type 0} (f : Y → List Z) (g : X → Y) → ((x : X) → f (g x) ≡ []) → (xs : List X) → joined f (map g xs) ≡ []
 joined-none f g e [] = refl
@@ -102,9 +92,10 @@ may-follow last (Cart s g) k a b = (a, b)
 run : (k : ℕ) (done rs rest : List Record) → 3 ≤ k → 2 ≤ last-rank done → last-rank done ≤ k → All (λ r. rank r ≡ k) rs → All Fitting rs → ((past : List Record) → 2 ≤ last-rank past → last-rank past ≤ k → EachAfter Placed past rest) → EachAfter Placed done (rs ++ rest)
 run k done [] rest n low high same fits then = then done low high
 run k done (r ∷ rs) rest n low high same fits then =
-    let e = last-push done r in
-    ( record { fitting = fits .0; follows = may-follow (last-rank done) r (omega (arith, same .0)) low (omega (arith, same .0)) }
-    , run k (done ++ r ∷ []) rs rest n (omega (arith, same .0)) (omega (arith, same .0)) (same .1) (fits .1) then)
+    let e = last-push done r in (
+      record { fitting = fits .0; follows = may-follow (last-rank done) r (omega (arith, same .0)) low (omega (arith, same .0)) },
+      run k (done ++ r ∷ []) rs rest n (omega (arith, same .0)) (omega (arith, same .0)) (same .1) (fits .1) then,
+    )
 
 rank-map : {X : Type 0} (k : ℕ) (g : X → Record) → ((x : X) → rank (g x) ≡ k) → (xs : List X) → All (λ r. rank r ≡ k) (map g xs)
 rank-map k g e [] = tt
@@ -125,10 +116,13 @@ module _ (s : SiteData) (fits : All Fitting (site-records s)) where
       run 4 past (map tariff-record (s .tariff)) _ (omega arith) low (omega arith) (rank-map 4 tariff-record (λ c. refl) (s .tariff)) (parts .1 .0) carts-placed
 
   pub printed-placed : EachAfter Placed [] (site-records s)
-  printed-placed =
-      ( record { fitting = fits .0; follows = refl }
-      , ( record { fitting = fits .1 .0; follows = refl }
-        , run 3 _ (map Lane (s .lanes)) _ (omega arith) (omega arith) (omega arith) (rank-map 3 Lane (λ l. refl) (s .lanes)) (parts .0) tariff-placed))
+  printed-placed = (
+    record { fitting = fits .0; follows = refl },
+    (
+      record { fitting = fits .1 .0; follows = refl },
+      run 3 _ (map Lane (s .lanes)) _ (omega arith) (omega arith) (omega arith) (rank-map 3 Lane (λ l. refl) (s .lanes)) (parts .0) tariff-placed,
+    ),
+  )
 
 -- ranks do not fall
 rises : (last : ℕ) (r : Record) → MayFollow last r → last ≤ rank r

@@ -1,10 +1,8 @@
 -- The rows of records that are accepted are within their tables. Assumes nothing.
 use mathlib.Core.Path.{_≡_, refl, sym, ap, _∙_, subst}
-use mathlib.Core.Bool.{Bool, true, false, cond, _||_}
 use mathlib.Core.List.{List, [], _∷_, _++_}
 use native.Mathlib.Omega.{arith}
-use native.Mathlib.Nat.{add-zero}
-use Prim.Native.Nat.{ℕ, _+_, _<_, _≤_}
+use Prim.Native.Nat.{ℕ, _+_, _≤_}
 use lib.Dec.{leb, ltb}
 use lib.ListN.{length}
 use Rattle.std.specs.Joined.{joined}
@@ -14,7 +12,6 @@ use Rattle.std.proofs.shelf.Tests.{leb-false, ltb-false, or-parts}
 use Rattle.std.specs.declared.option.Option.{Option}
 use Rattle.std.specs.declared.option.Option.the-variants.{Some, None}
 use Rattle.carts.specs.declared.draft_refusal.DraftRefusal.{DraftRefusal}
-use Rattle.carts.specs.Drafts.{cart-refusal}
 use Rattle.sites.specs.declared.records.Record.{Record}
 use Rattle.sites.specs.declared.records.Record.the-variants.{Horizon, Places, Lane, BothLanes, Tariff, Cart}
 use Rattle.sites.specs.declared.refusal.SiteFault.{SiteFault}
@@ -23,7 +20,7 @@ use Rattle.sites.specs.Records.{Fitting}
 use Rattle.sites.specs.Sites.{lanes-in, tariff-in, carts-in, EachAfter, lacking, draft-fault, Stands, Accepted}
 use Rattle.sites.specs.Writing.{Writable}
 use Rattle.sites.proofs.CartRooms.{not-refused}
-use Rattle.sites.proofs.NextRecord.{part-push}
+use Rattle.sites.proofs.RecordLists.{all-from-each, part-push}
 
 not-lacking : (rows used wanted : ℕ) (others : Option SiteFault) → lacking rows used wanted others ≡ None → used + wanted ≤ rows
 not-lacking rows used wanted others e = ltb-false rows (used + wanted) (not-refused (ltb rows (used + wanted)) _ others e)
@@ -71,9 +68,8 @@ within part rooms rows adds done (r ∷ rs) h k =
     subst (λ (t : List Record). length (joined part t) ≤ rows) (append-assoc done (r ∷ []) rs)
     (within part rooms rows adds (done ++ r ∷ []) rs (h .1) (omega (arith, adds done r (h .0) k)))
 
-pub all-fitting : (rooms : Rooms) (done rs : List Record) → EachAfter (Stands rooms) done rs → All Fitting rs
-all-fitting rooms done [] h = tt
-all-fitting rooms done (r ∷ rs) h = (h .0 .fitting, all-fitting rooms (done ++ r ∷ []) rs (h .1))
+pub all-fitting : (rooms : Rooms) (rs : List Record) → EachAfter (Stands rooms) [] rs → All Fitting rs
+all-fitting rooms rs h = all-from-each (Stands rooms) Fitting (λ before r s. s .fitting) [] rs h
 
 module _ (rooms : Rooms) (bytes : List ℕ) (rs : List Record) (a : Accepted rooms bytes rs) where
   pub carts-within : length (joined carts-in rs) ≤ rooms .carts
@@ -83,8 +79,8 @@ module _ (rooms : Rooms) (bytes : List ℕ) (rs : List Record) (a : Accepted roo
   writable =
       record {
         records = rs;
-        fitting = all-fitting rooms [] rs (a .stand);
+        fitting = all-fitting rooms rs (a .stand);
         text = a .text;
         lanes-room = within lanes-in rooms (rooms .lanes) (lanes-add rooms) [] rs (a .stand) (omega arith);
-        tariff-room = within tariff-in rooms (rooms .tariff) (tariff-add rooms) [] rs (a .stand) (omega arith)
+        tariff-room = within tariff-in rooms (rooms .tariff) (tariff-add rooms) [] rs (a .stand) (omega arith);
       }

@@ -2,7 +2,7 @@
 use mathlib.Core.Path.{_≡_, refl, sym, ap, _∙_, subst}
 use mathlib.Core.List.{List, [], _∷_, _++_}
 use native.Mathlib.Omega.{arith}
-use Prim.Native.Nat.{ℕ, _+_, _-_, _<_, _≤_}
+use Prim.Native.Nat.{ℕ, _+_, _-_, _≤_}
 use lib.ListN.{length, take, drop}
 use Rattle.std.specs.Joined.{joined}
 use Rattle.std.specs.shelf.Lists.{All}
@@ -17,8 +17,7 @@ use Rattle.sites.specs.Reading.{Front}
 use Rattle.sites.specs.Sites.{lanes-in, tariff-in}
 use Rattle.sites.specs.Writing.{put, filled, Writable, RowsWritten}
 use Rattle.sites.proofs.Filling.{put-filled}
-use Rattle.sites.proofs.NextRecord.{part-push}
-use Rattle.sites.proofs.Printing.{joined-append}
+use Rattle.sites.proofs.RecordLists.{joined-append, part-push}
 use Rattle.sites.proofs.Texts.{record-same, records-same}
 
 -- one table: so many of its rows are written, those of the records that are done
@@ -46,7 +45,7 @@ none-passed bytes lanes tariff w =
       text = w .text;
       inside = omega arith;
       lane-table = record { count = refl; rows = refl };
-      tariff-table = record { count = refl; rows = refl }
+      tariff-table = record { count = refl; rows = refl };
     }
 
 -- the rows of one record have room, where those of all records have
@@ -63,7 +62,7 @@ row-more part done r was now′ next n k t e f =
     let more = part-push part done r in
     record {
       count = f ∙ ap (λ m. m + length (part r)) (t .count) ∙ sym (length-append (joined part done) (part r)) ∙ ap length (sym more);
-      rows = e ∙ (λ i. put (t .rows i) (t .count i) (part r)) ∙ put-filled (joined part done) (part r) was ∙ ap (λ xs. filled xs was) (sym more)
+      rows = e ∙ (λ i. put (t .rows i) (t .count i) (part r)) ∙ put-filled (joined part done) (part r) was ∙ ap (λ xs. filled xs was) (sym more);
     }
 
 all-right : (done left : List Record) → All Fitting (done ++ left) → All Fitting left
@@ -96,7 +95,7 @@ module _ (bytes : List ℕ) (at n m : ℕ) (lanes₀ lanes : List LaneRow) (tari
           record {
             others = left;
             whole = ap (λ q. p .done ++ q ∷ left) (same .0) ∙ w;
-            text = same .1
+            text = same .1;
           }
 
   module _ (p : Passed bytes at n m lanes₀ lanes tariff₀ tariff) (r : Record) (k : ℕ) (f : Front slice r k) where
@@ -119,7 +118,7 @@ module _ (bytes : List ℕ) (at n m : ℕ) (lanes₀ lanes : List LaneRow) (tari
           text = x .text;
           inside = omega (arith, ap length (take-rest bytes at), length-drop at bytes);
           lane-table = row-more lanes-in (p .done) r lanes₀ lanes lanes′ n n′ (p .lane-table) a b;
-          tariff-table = row-more tariff-in (p .done) r tariff₀ tariff tariff′ m m′ (p .tariff-table) c d
+          tariff-table = row-more tariff-in (p .done) r tariff₀ tariff tariff′ m m′ (p .tariff-table) c d;
         }
 
   -- where no record is read, all are done
@@ -133,6 +132,7 @@ module _ (bytes : List ℕ) (at n m : ℕ) (lanes₀ lanes : List LaneRow) (tari
   pub written : (p : Passed bytes at n m lanes₀ lanes tariff₀ tariff) → p .done ≡ p .site .records → ((rs : List Record) → RowsWritten lanes-in rs bytes lanes₀ lanes) × ((rs : List Record) → RowsWritten tariff-in rs bytes tariff₀ tariff)
   written p all =
       let same : (rs : List Record) → All Fitting rs → bytes ≡ records-text rs → p .done ≡ rs =
-          λ rs h e. all ∙ records-same (p .site .records) rs (p .site .fitting) h (sym (p .site .text) ∙ e) in
-      ( (λ rs h e. p .lane-table .rows ∙ ap (λ (qs : List Record). filled (joined lanes-in qs) lanes₀) (same rs h e))
-      , (λ rs h e. p .tariff-table .rows ∙ ap (λ (qs : List Record). filled (joined tariff-in qs) tariff₀) (same rs h e)))
+      λ rs h e. all ∙ records-same (p .site .records) rs (p .site .fitting) h (sym (p .site .text) ∙ e) in (
+        (λ rs h e. p .lane-table .rows ∙ ap (λ (qs : List Record). filled (joined lanes-in qs) lanes₀) (same rs h e)),
+        (λ rs h e. p .tariff-table .rows ∙ ap (λ (qs : List Record). filled (joined tariff-in qs) tariff₀) (same rs h e)),
+      )

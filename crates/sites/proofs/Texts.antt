@@ -1,22 +1,21 @@
 -- A text is that of one list of records at most.
-use mathlib.Core.Path.{_≡_, refl, sym, ap, _∙_}
+use mathlib.Core.Path.{_≡_, refl, sym, _∙_}
 use mathlib.Core.Bool.{cond}
 use mathlib.Core.List.{List, [], _∷_, _++_}
 use native.Mathlib.Omega.{arith}
 use Prim.Native.Nat.{ℕ, _^_, _<_, _≤_, _+_, _%_}
 use lib.Dec.{eqb}
-use Rattle.std.specs.Joined.{joined}
 use Rattle.std.specs.Written.{decimal}
 use Rattle.std.specs.declared.option.Option.{Option}
 use Rattle.std.specs.declared.option.Option.the-variants.{Some, None}
 use Rattle.std.specs.shelf.Lists.{All}
 use Rattle.std.proofs.shelf.Decimals.{decimal-by-steps, same-from-decimal}
-use Rattle.std.proofs.shelf.Elements.{all-push, all-weaker}
+use Rattle.std.proofs.shelf.Elements.{all-push}
 use Rattle.std.proofs.shelf.Lists.{append-assoc}
 use Rattle.floors.specs.declared.lane_row.LaneRow.{LaneRow}
 use Rattle.sites.specs.declared.records.Record.{Record}
 use Rattle.sites.specs.declared.records.Record.the-variants.{Horizon, Places, Lane, BothLanes, Tariff, Cart}
-use Rattle.sites.specs.Records.{mark-first, mark-second, numbers, numbers-text, line-text, record-text, records-text, Fitting}
+use Rattle.sites.specs.Records.{mark-first, mark-second, numbers, numbers-text, record-text, records-text, Fitting}
 
 -- what does not go on with a digit
 abbrev pub Stops : List ℕ → Type 0

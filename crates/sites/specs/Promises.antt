@@ -10,7 +10,7 @@ use Rattle.costs.specs.declared.total.Total.{Total}
 use Rattle.costs.specs.declared.worst.Worst.{Worst}
 use Rattle.carts.specs.declared.cart.Cart.{Cart as CartRow}
 use Rattle.sites.specs.declared.records.Record.{Record}
-use Rattle.sites.specs.declared.records.Record.the-variants.{Horizon, Places, Lane, BothLanes, Tariff, Cart}
+use Rattle.sites.specs.declared.records.Record.the-variants.{Horizon, Places, Lane, Tariff, Cart}
 use Rattle.sites.specs.declared.refusal.SiteFault.{SiteFault}
 use Rattle.sites.specs.declared.rooms.Rooms.{Rooms}
 use Rattle.sites.specs.Records.{Fitting, records-text}

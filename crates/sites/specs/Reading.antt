@@ -1,7 +1,7 @@
 -- What it is to read bytes as the text of something. Assumes nothing.
 use mathlib.Core.Path.{_≡_}
 use mathlib.Core.List.{List, [], _∷_, _++_}
-use Prim.Native.Nat.{ℕ, _≤_, _<_}
+use Prim.Native.Nat.{ℕ, _≤_}
 use denote.Ref.{RefT}
 use lib.ListN.{length, drop}
 use Rattle.std.specs.Written.{decimal}

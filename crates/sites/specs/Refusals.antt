@@ -1,5 +1,5 @@
 -- The numbers of the site reader's refusals. Assumes nothing.
-use mathlib.Core.List.{List, [], _∷_, _++_}
+use mathlib.Core.List.{List, [], _∷_}
 use Prim.Native.Nat.{ℕ}
 use lib.ListN.{getD}
 use Rattle.carts.specs.Drafts.{draft-refusal-number}

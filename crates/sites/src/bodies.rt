@@ -9,7 +9,12 @@ use crate::refusal::SiteRefusal;
 use crate::rooms::Rooms;
 
 // The records from the third on, which begins at `start`.
-fn read_body(bytes: &[u8], rooms: Rooms, head: Reading, start: usize) -> Result<Reading, SiteRefusal>
+fn read_body(
+    bytes: &[u8],
+    rooms: Rooms,
+    head: Reading,
+    start: usize,
+) -> Result<Reading, SiteRefusal>
     requires short { ⌜ length (now bytes) ≤ 16384 ⌝ }
     requires reached { ⌜ Reached rooms (now bytes) start 3 head ⌝ }
     ensures { λ r. ⌜ RecordsRead rooms (now (bytes .entry)) r ⌝ }
@@ -19,7 +24,10 @@ fn read_body(bytes: &[u8], rooms: Rooms, head: Reading, start: usize) -> Result<
     let mut line: u16 = 3;
     while at < bytes.len() {
         let Some((record, length)) = first_record(&bytes[at..]) else {
-            return Err(SiteRefusal { line, fault: SiteFault::Misread });
+            return Err(SiteRefusal {
+                line,
+                fault: SiteFault::Misread,
+            });
         };
         match reading.take(record, rooms) {
             Ok(next) => reading = next,

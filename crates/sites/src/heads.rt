@@ -53,6 +53,13 @@ pub fn read_head(bytes: &[u8]) -> Result<(Reading, usize), SiteRefusal>
         Err(fault) => return Err(SiteRefusal { line: 2, fault }),
     };
     let carts = [Cart { start: 0, goal: 0 }; 6];
-    let reading = Reading { draft, floor, carts, lanes: 0, tariff: 0, rank: 2 };
+    let reading = Reading {
+        draft,
+        floor,
+        carts,
+        lanes: 0,
+        tariff: 0,
+        rank: 2,
+    };
     Ok((reading, first + second))
 }

@@ -1,13 +1,13 @@
 ghost use mathlib.Core.Path.{_≡_};
-ghost use mathlib.Core.Bool.{Bool};
-ghost use lib.ListN.{length};
 ghost use Rattle.carts.specs.Drafts.{Started, Entered, start-among, goal-among};
 use crate::cart::Cart;
 use crate::draft::Draft;
 use crate::draft_refusal::DraftRefusal;
 
 const MOST_TICKS: u16 = 64;
+
 const MOST_CARTS: usize = 6;
+
 const LAST_PLACE: u16 = 127;
 
 // Whether a cart starts at one place, and whether a cart goes to the other.
@@ -36,7 +36,10 @@ impl Draft {
         if horizon < 1 || horizon > MOST_TICKS {
             return Err(DraftRefusal::BadHorizon);
         }
-        Ok(Draft { horizon: horizon as u8, carts: 0 })
+        Ok(Draft {
+            horizon: horizon as u8,
+            carts: 0,
+        })
     }
 
     pub fn horizon(&self) -> u8
@@ -53,7 +56,12 @@ impl Draft {
     }
 
     // Enters a cart in the first row that is not in use, or gives the draft back with all rows as they were.
-    pub fn add_cart(self, rows: &mut [Cart], start: u16, goal: u16) -> Result<Draft, (Draft, DraftRefusal)>
+    pub fn add_cart(
+        self,
+        rows: &mut [Cart],
+        start: u16,
+        goal: u16,
+    ) -> Result<Draft, (Draft, DraftRefusal)>
         ensures { λ r. ⌜ Entered self (now (rows .entry)) start goal (now (rows .exit)) r ⌝ }
     {
         let row = self.carts as usize;
@@ -70,7 +78,13 @@ impl Draft {
         if goals {
             return Err((self, DraftRefusal::GoalTaken));
         }
-        rows[row] = Cart { start: start as u8, goal: goal as u8 };
-        Ok(Draft { horizon: self.horizon, carts: self.carts + 1 })
+        rows[row] = Cart {
+            start: start as u8,
+            goal: goal as u8,
+        };
+        Ok(Draft {
+            horizon: self.horizon,
+            carts: self.carts + 1,
+        })
     }
 }

@@ -11,7 +11,9 @@ use floors::LaneRow;
 
 // The ranks of the records from the third on.
 const LANE: u8 = 3;
+
 const LINE: u8 = 4;
+
 const CART: u8 = 5;
 
 impl Reading {
@@ -51,7 +53,11 @@ impl Reading {
             return Err(SiteFault::NoRow);
         }
         match self.add_lane(row) {
-            Ok(reading) => reading.add_lane(LaneRow { from: row.to, to: row.from, line: row.line }),
+            Ok(reading) => reading.add_lane(LaneRow {
+                from: row.to,
+                to: row.from,
+                line: row.line,
+            }),
             Err(fault) => Err(fault),
         }
     }
@@ -62,9 +68,23 @@ impl Reading {
         ensures taken { λ r. ⌜ ((s : SiteData) → Holds s self → LaneTaken s row r) ⌝ }
         ensures kept { λ r. ⌜ made r (λ x. (x .lanes ≡ self .lanes + 1) × (x .rank ≡ 3)) ⌝ }
     {
-        let Reading { draft, mut floor, carts, lanes, tariff, rank: _ } = self;
+        let Reading {
+            draft,
+            mut floor,
+            carts,
+            lanes,
+            tariff,
+            rank: _,
+        } = self;
         match floor.add_lane(row) {
-            Ok(()) => Ok(Reading { draft, floor, carts, lanes: lanes + 1, tariff, rank: LANE }),
+            Ok(()) => Ok(Reading {
+                draft,
+                floor,
+                carts,
+                lanes: lanes + 1,
+                tariff,
+                rank: LANE,
+            }),
             Err(why) => Err(SiteFault::Floor(why)),
         }
     }
@@ -78,8 +98,22 @@ impl Reading {
         if self.tariff >= rooms.tariff {
             return Err(SiteFault::NoRow);
         }
-        let Reading { draft, floor, carts, lanes, tariff, rank: _ } = self;
-        Ok(Reading { draft, floor, carts, lanes, tariff: tariff + 1, rank: LINE })
+        let Reading {
+            draft,
+            floor,
+            carts,
+            lanes,
+            tariff,
+            rank: _,
+        } = self;
+        Ok(Reading {
+            draft,
+            floor,
+            carts,
+            lanes,
+            tariff: tariff + 1,
+            rank: LINE,
+        })
     }
 
     // A cart in a table of so many rows.
@@ -87,10 +121,24 @@ impl Reading {
         ensures taken { λ r. ⌜ ((s : SiteData) → Holds s self → CartTaken rows s start goal r) ⌝ }
         ensures kept { λ r. ⌜ made r (λ x. x .rank ≡ 5) ⌝ }
     {
-        let Reading { draft, floor, mut carts, lanes, tariff, rank: _ } = self;
+        let Reading {
+            draft,
+            floor,
+            mut carts,
+            lanes,
+            tariff,
+            rank: _,
+        } = self;
         let room = rows.min(6);
         match draft.add_cart(&mut carts[0..room], start, goal) {
-            Ok(draft) => Ok(Reading { draft, floor, carts, lanes, tariff, rank: CART }),
+            Ok(draft) => Ok(Reading {
+                draft,
+                floor,
+                carts,
+                lanes,
+                tariff,
+                rank: CART,
+            }),
             Err(refused) => Err(SiteFault::Draft(refused.1)),
         }
     }

@@ -13,8 +13,11 @@ returns-in-Err c =
 
 pub loop-at-less : need.loop-at-less
 loop-at-less c =
-    omega (arith, front-long _ (c .in-Some .«record») (c .in-Some .length) (c .in-Some .ensures tt),
-      next-inside (c .args .rooms) (c .args .bytes .now) (c .loop-at .at) (c .loop-at .line) (c .loop-at .reading) (c .loop-at .inv) (c .in-Some .«record») (c .in-Some .length) (c .in-Some .ensures tt))
+    omega (
+      arith,
+      front-long _ (c .in-Some .«record») (c .in-Some .length) (c .in-Some .ensures tt),
+      next-inside (c .args .rooms) (c .args .bytes .now) (c .loop-at .at) (c .loop-at .line) (c .loop-at .reading) (c .loop-at .inv) (c .in-Some .«record») (c .in-Some .length) (c .in-Some .ensures tt),
+    )
 
 pub loop-at-again : need.loop-at-again
 loop-at-again c =

@@ -17,5 +17,5 @@ returns c =
     record {
       fitting = c .in-Some-read-line .ensures tt .0;
       inside = omega arith;
-      text = record-front (c .args .bytes .now) (c .in-Some .line .now) (c .in-Some .below .now) (c .in-Some .ensures tt .0) (c .in-Some-read-line .record) (c .in-Some-read-line .ensures tt .1)
+      text = record-front (c .args .bytes .now) (c .in-Some .line .now) (c .in-Some .below .now) (c .in-Some .ensures tt .0) (c .in-Some-read-line .record) (c .in-Some-read-line .ensures tt .1);
     }

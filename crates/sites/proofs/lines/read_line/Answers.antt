@@ -1,8 +1,6 @@
-use mathlib.Core.Path.{_≡_, refl, sym, ap, _∙_}
-use mathlib.Core.List.{List, [], _∷_, _++_}
-use Prim.Native.Nat.{ℕ, _<_, _≤_, _-_}
+use mathlib.Core.Path.{refl, ap, _∙_}
+use mathlib.Core.List.{_∷_}
 use borrow.Author.Needs.{needs}
-use lib.ListN.{length, getD, take, drop}
 use Rattle.sites.proofs.LineRecords.{two-bytes, none-one, none-two, none-three}
 use Rattle.sites.proofs.lines.read_line.Needs as need
 

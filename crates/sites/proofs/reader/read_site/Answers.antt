@@ -1,6 +1,6 @@
 use mathlib.Core.Path.{_≡_, ap, _∙_}
-use mathlib.Core.List.{[], _++_}
-use Prim.Native.Nat.{ℕ, _-_, _≤_}
+use mathlib.Core.List.{_++_}
+use Prim.Native.Nat.{_-_, _≤_}
 use native.Mathlib.Omega.{arith}
 use borrow.Author.Needs.{needs}
 use borrow.Rule.Slice.PartMut.{postOf}
@@ -26,18 +26,18 @@ returns-in-Ok c =
     let read = c .in-Ok .ensures tt in
     let rs = read .0 in
     let h = read .2 .holds in
-    let fits = all-fitting _ [] rs (read .1 .stand) in
+    let fits = all-fitting _ rs (read .1 .stand) in
     let lanes = c .write-rows .ensures .lanes rs fits (read .1 .text) in
     let tariff = c .write-rows .ensures .tariff rs fits (read .1 .text) in
     let count : c .carts-count .result - 0 ≡ length (said rs .carts) = omega (arith, c .carts-count .ensures, h .entered) in
     let carts : c .copy-from-slice .last .self ++ postOf 0 (c .carts-count .result - 0) (c .args .carts .now) ≡ filled (said rs .carts) (c .args .carts .now) =
-        ap (λ t. t ++ postOf 0 (c .carts-count .result - 0) (c .args .carts .now)) (c .copy-from-slice .ensures .after)
-        ∙ ap (λ n. take n (c .in-Ok .reading .carts) ++ postOf 0 n (c .args .carts .now)) count
-        ∙ ap (λ t. t ++ postOf 0 (length (said rs .carts)) (c .args .carts .now)) (h .carts) in
+    ap (λ t. t ++ postOf 0 (c .carts-count .result - 0) (c .args .carts .now)) (c .copy-from-slice .ensures .after)
+    ∙ ap (λ n. take n (c .in-Ok .reading .carts) ++ postOf 0 n (c .args .carts .now)) count
+    ∙ ap (λ t. t ++ postOf 0 (length (said rs .carts)) (c .args .carts .now)) (h .carts) in
     record {
       short = c .if-bytes-gt-MOST-BYTES .left;
       records = rs;
       accepted = read .1;
       written = λ i. record { lanes = lanes i; tariff = tariff i; carts = carts i };
-      holds = record { horizon = h .horizon; carts = h .entered; floor = h .floor; lanes = h .lanes; tariff = h .tariff }
+      holds = record { horizon = h .horizon; carts = h .entered; floor = h .floor; lanes = h .lanes; tariff = h .tariff };
     }

@@ -12,7 +12,7 @@ write-record-written-requires c κs =
     record {
       fitting = front .fitting;
       lanes = omega (arith, c .loop-record .kept .lanes, lanes-room (c .args .bytes .now) (c .loop-record .at) _ _ _ _ _ _ (c .loop-record .inv) (c .in-Some .«record») (c .in-Some .length) front);
-      tariff = omega (arith, c .loop-record .kept .tariff, tariff-room (c .args .bytes .now) (c .loop-record .at) _ _ _ _ _ _ (c .loop-record .inv) (c .in-Some .«record») (c .in-Some .length) front)
+      tariff = omega (arith, c .loop-record .kept .tariff, tariff-room (c .args .bytes .now) (c .loop-record .at) _ _ _ _ _ _ (c .loop-record .inv) (c .in-Some .«record») (c .in-Some .length) front);
     }
 
 pub loop-record-less : need.loop-record-less
@@ -20,8 +20,8 @@ loop-record-less c =
     let front = c .in-Some .ensures tt in
     let long = front-long _ (c .in-Some .«record») (c .in-Some .length) front in
     let next = next-passed (c .args .bytes .now) (c .loop-record .at) _ _ _ _ _ _ (c .loop-record .inv) (c .in-Some .«record») (c .in-Some .length) front
-        (c .write-record-written .last .lanes) (c .write-record-written .last .tariff) (c .write-record-written .result .lanes) (c .write-record-written .result .tariff)
-        (c .write-record-written .ensures .lanes .0) (c .write-record-written .ensures .lanes .1) (c .write-record-written .ensures .tariff .0) (c .write-record-written .ensures .tariff .1) in
+    (c .write-record-written .last .lanes) (c .write-record-written .last .tariff) (c .write-record-written .result .lanes) (c .write-record-written .result .tariff)
+    (c .write-record-written .ensures .lanes .0) (c .write-record-written .ensures .lanes .1) (c .write-record-written .ensures .tariff .0) (c .write-record-written .ensures .tariff .1) in
     omega (arith, next .inside)
 
 pub loop-record-again : need.loop-record-again
