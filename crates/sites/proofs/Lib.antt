@@ -1,0 +1,14 @@
+mod Texts
+mod LineReads
+mod LineRecords
+mod RecordLists
+mod Outcomes
+mod Printing
+mod Promising
+mod Keeping
+mod CartRooms
+mod NextRecord
+mod Reaching
+mod Filling
+mod SecondPass
+mod RoomsKept

@@ -1,0 +1,6 @@
+use borrow.Author.Needs.{needs}
+use Rattle.sites.proofs.LineReads.{first-byte, one-number}
+use Rattle.sites.proofs.lines.one.Needs as need
+
+pub returns : need.returns
+returns c = one-number (c .args .bytes .now) _ (first-byte (c .args .bytes .now) 32 (search needs) (search needs)) (c .number .result) (c .number .ensures)
