@@ -6,19 +6,20 @@ use mathlib.Core.Logic.{inl, inr}
 use Prim.Native.Nat.{ℕ, _+_, _-_, _<_, _≤_}
 use native.Mathlib.Omega.{arith}
 use lib.ListN.{length, take, drop, getD, set}
+use Rattle.std.specs.declared.option.Option.{Option}
 use Rattle.std.specs.declared.option.Option.the-variants.{Some, None}
 use Rattle.std.specs.shelf.Maps.{nth}
 use Rattle.std.proofs.shelf.Maps.{nth-getD, nth-past}
 use Rattle.std.proofs.shelf.Tests.{cases-lt}
 use Rattle.std.proofs.shelf.Lists.{append-nil, append-assoc, take-more, take-all, take-more-set, length-take-le, length-set, drop-at}
 use Rattle.rules.specs.Kinds.{Kind, Laws}
-use Rattle.rules.specs.Fronts.{covered, front-of}
+use Rattle.rules.specs.Fronts.{front-of}
 use Rattle.rules.specs.Offers.{Label}
 use Rattle.labels.specs.declared.cell.Cell.{Cell}
 use Rattle.labels.specs.declared.row.LabelRow.{LabelRow}
 use Rattle.labels.specs.Cells.{Ready, Grown}
 use Rattle.labels.specs.Parts.{Part}
-use Rattle.labels.specs.Picks.{picked}
+use Rattle.labels.specs.Picks.{picked, last-cost, passed-over}
 use Rattle.labels.specs.Queries.{Asked, row-of}
 use Rattle.labels.specs.Rows.{shown, shown-row}
 use Rattle.labels.proofs.Parts.{part-more}
@@ -98,17 +99,21 @@ module _ {C : Type 0} where
   }
 
 module _ {C : Type 0} (k : Kind C) (laws : Laws k) (xs : List (Label C)) (was rows : List (LabelRow C)) (start end : ℕ) (le : start ≤ length was) (f : Filling was rows start end (front-of k xs)) where
-  selected : picked k (covered k (drop start (shown (take end rows)))) None xs ≡ nth (front-of k xs) (end - start)
-  selected = ap (λ es. picked k (covered k es) None xs) (filling-cell was rows start end (front-of k xs) le f) ∙ picks-next k laws xs (end - start) (record { cost = k .zero; item = [] })
+  -- what is selected next among the candidates
+  abbrev next : Option (Label C)
+  next = let es = drop start (shown (take end rows)) in picked k (passed-over k (last-cost k None es) es) None xs
 
-  filled-next : (r : LabelRow C) → Some (shown-row (shown (take end rows)) r) ≡ picked k (covered k (drop start (shown (take end rows)))) None xs → (end - start < length (front-of k xs)) × (take (end - start + 1) (front-of k xs) ≡ take (end - start) (front-of k xs) ++ shown-row (shown (take end rows)) r ∷ [])
+  selected : next ≡ nth (front-of k xs) (end - start)
+  selected = ap (λ es. picked k (passed-over k (last-cost k None es) es) None xs) (filling-cell was rows start end (front-of k xs) le f) ∙ picks-next k laws xs (end - start) (record { cost = k .zero; item = [] })
+
+  filled-next : (r : LabelRow C) → Some (shown-row (shown (take end rows)) r) ≡ next → (end - start < length (front-of k xs)) × (take (end - start + 1) (front-of k xs) ≡ take (end - start) (front-of k xs) ++ shown-row (shown (take end rows)) r ∷ [])
   filled-next r h = nth-here (front-of k xs) (end - start) (shown-row (shown (take end rows)) r) (h ∙ selected)
 
-  pub filled-more : (r : LabelRow C) → Some (shown-row (shown (take end rows)) r) ≡ picked k (covered k (drop start (shown (take end rows)))) None xs → end < length rows → Filling was (set rows end r) start (end + 1) (front-of k xs)
+  pub filled-more : (r : LabelRow C) → Some (shown-row (shown (take end rows)) r) ≡ next → end < length rows → Filling was (set rows end r) start (end + 1) (front-of k xs)
   filled-more r h lt = let n = filled-next r h in filling-more was rows start end (front-of k xs) r f lt (n .0) (n .1)
 
-  pub filled-full : (r : LabelRow C) → Some (shown-row (shown (take end rows)) r) ≡ picked k (covered k (drop start (shown (take end rows)))) None xs → length was ≡ length rows → end ≡ length rows → length was < start + length (front-of k xs)
+  pub filled-full : (r : LabelRow C) → Some (shown-row (shown (take end rows)) r) ≡ next → length was ≡ length rows → end ≡ length rows → length was < start + length (front-of k xs)
   filled-full r h same full = omega (arith, filled-next r h .0, f .from)
 
-  pub filled-done : None ≡ picked k (covered k (drop start (shown (take end rows)))) None xs → Grown was rows start (front-of k xs) (Some end)
+  pub filled-done : None ≡ next → Grown was rows start (front-of k xs) (Some end)
   filled-done h = (f .within, f .holds ∙ ap (λ l. shown (take start was) ++ l) (take-all (end - start) (front-of k xs) (nth-over (front-of k xs) (end - start) (record { cost = k .zero; item = [] }) (h ∙ selected))))

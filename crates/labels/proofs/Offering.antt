@@ -25,7 +25,7 @@ use Rattle.labels.specs.Picks.{better, picked, dominated, last-cost, out-of-tu
 use Rattle.labels.specs.Rows.{shown}
 use Rattle.labels.proofs.Filling.{nth-here, nth-over}
 use Rattle.labels.proofs.Moving.{picked-append}
-use Rattle.labels.proofs.Picking.{picks-after}
+use Rattle.labels.proofs.Picking.{last-push, picks-after}
 use Rattle.labels.proofs.Showing.{length-shown, costs-shown, cost-at}
 
 abbrev label-costs : {C : Type 0} → List (Label C) → List C
@@ -159,14 +159,10 @@ module _ {C : Type 0} (k : Kind C) (laws : Laws k) (l : Landing) (ls xs : List (
   pub offer-here : (o : Offer C) → Some (shown-offer l ls o) ≡ picked k (out-of-turn k last xs) None xs → Some (shown-offer l ls o) ≡ nth (front-of k xs) n
   offer-here o h = h ∙ next-is
 
-  last-push : (o : Option C) (es : List (Label C)) (b : Label C) → last-cost k o (es ++ b ∷ []) ≡ Some (b .cost)
-  last-push o [] b = refl
-  last-push o (e ∷ es) b = last-push (Some (e .cost)) es b
-
   pub offer-more : (o : Offer C) → Some (shown-offer l ls o) ≡ picked k (out-of-turn k last xs) None xs → (n + 1 ≤ length (front-of k xs)) × (Some (o .cost) ≡ last-cost k None (take (n + 1) (front-of k xs)))
   offer-more o h =
       let r = nth-here (front-of k xs) n (shown-offer l ls o) (offer-here o h) in
-      (omega (arith, r .0), sym (ap (last-cost k None) (r .1) ∙ last-push None (take n (front-of k xs)) (shown-offer l ls o)))
+      (omega (arith, r .0), sym (ap (last-cost k None) (r .1) ∙ last-push k None (take n (front-of k xs)) (shown-offer l ls o)))
 
   pub offers-over : None ≡ picked k (out-of-turn k last xs) None xs → n ≡ length (front-of k xs)
   offers-over h = omega (arith, nth-over (front-of k xs) n (record { cost = k .zero; item = [] }) (h ∙ next-is))

@@ -4,18 +4,19 @@ use mathlib.Core.Path.{_≡_, refl, sym, ap, _∙_}
 use mathlib.Core.Bool.{Bool, true, false, cond, _&&_, _||_, not}
 use mathlib.Core.List.{List, [], _∷_, _++_, map}
 use mathlib.Core.Logic.{inl, inr}
-use Prim.Native.Nat.{ℕ, _+_, _<_, _≤_}
+use Prim.Native.Nat.{ℕ, _+_, _-_, _<_, _≤_}
 use lib.ListN.{length, take, drop, getD}
 use native.Mathlib.Omega.{arith}
 use Rattle.std.specs.declared.option.Option.{Option}
 use Rattle.std.specs.declared.option.Option.the-variants.{Some, None}
 use Rattle.std.proofs.shelf.Tests.{cases-bool}
-use Rattle.std.proofs.shelf.Lists.{append-nil, append-assoc, length-push, length-take-le, getD-take, getD-map, map-push, at-drop-more, at-drop-all}
+use Rattle.std.proofs.shelf.Lists.{append-nil, append-assoc, length-push, length-take-le, take-more, drop-append-le, getD-take, getD-map, map-push, at-drop-more, at-drop-all}
 use Rattle.rules.specs.Kinds.{Kind}
 use Rattle.rules.specs.Fronts.{covered}
 use Rattle.rules.specs.Offers.{Label}
 use Rattle.labels.specs.declared.row.LabelRow.{LabelRow}
-use Rattle.labels.specs.Picks.{better, picked}
+use Rattle.labels.specs.Picks.{better, picked, last-cost}
+use Rattle.labels.proofs.Picking.{last-push}
 use Rattle.labels.specs.Rows.{shown-row, shown-from, shown, shown-best, extended-by, leads}
 
 module _ {C : Type 0} where
@@ -80,6 +81,24 @@ module _ {C : Type 0} where
       let long : length (take n rs) ≡ n = length-take-le n rs le′ in
       at-drop-all (λ l. covered k l c) (shown (take n rs)) i (omega (arith, length-shown (take n rs)))
 
+  -- the cost of the last label from start on is the last row's
+  pub last-none : (k : Kind C) (rs : List (LabelRow C)) (n i : ℕ) → n ≤ i → n ≤ length rs → None ≡ last-cost k None (drop i (shown (take n rs)))
+  last-none k rs n i le le′ = sym (at-drop-all (last-cost k None) (shown (take n rs)) i (omega (arith, length-shown (take n rs), length-take-le n rs le′)))
+
+  last-more : (k : Kind C) (rs : List (LabelRow C)) (n i : ℕ) (r : LabelRow C) → i ≤ n → n < length rs → Some (getD rs n r .cost) ≡ last-cost k None (drop i (shown (take (n + 1) rs)))
+  last-more k rs n i r le lt =
+      let x = getD rs n r in
+      let ls = shown (take n rs) in
+      let short : i ≤ length ls = omega (arith, length-shown (take n rs), length-take-le n rs (omega arith)) in
+      sym (ap (λ l. last-cost k None (drop i l)) (ap shown (take-more rs n r lt) ∙ shown-push (take n rs) x)
+        ∙ ap (last-cost k None) (drop-append-le i ls (shown-row ls x ∷ []) short)
+        ∙ last-push k None (drop i ls) (shown-row ls x))
+
+  pub last-some : (k : Kind C) (rs : List (LabelRow C)) (n i : ℕ) (r : LabelRow C) → i < n → n ≤ length rs → Some (getD rs (n - 1) r .cost) ≡ last-cost k None (drop i (shown (take n rs)))
+  last-some k rs n i r lt le =
+      let on : n - 1 + 1 ≡ n = omega arith in
+      last-more k rs (n - 1) i r (omega arith) (omega arith) ∙ ap (λ m. last-cost k None (drop i (shown (take m rs)))) on
+
   extended-at : (k : Kind C) (rs : List (LabelRow C)) (n to i : ℕ) (r : LabelRow C) (d : Label C) (price : C) (place : ℕ) → i < to → to ≤ n → n ≤ length rs →
       _≡_ {A = Label C} (record { cost = k .join (getD (take to (shown (take n rs))) i d .cost) price; item = place ∷ getD (take to (shown (take n rs))) i d .item }) (shown-row (shown (take n rs)) (record { cost = k .join (getD rs i r .cost) price; parent = i; place = place }))
   extended-at k rs n to i r d price place lt le le′ =
@@ -90,32 +109,32 @@ module _ {C : Type 0} where
       let same = getD-take to ls i d lt in
       λ j. record { cost = k .join ((ap (λ l. l .cost) same ∙ cost-at rs n i r d in-n le′) j) price; item = place ∷ (ap (λ l. l .item) same ∙ sym (getD-map (λ l. l .item) ls i d [] within)) j }
 
-  pub picked-at : (k : Kind C) (rs : List (LabelRow C)) (n to i : ℕ) (r : LabelRow C) (price : C) (place : ℕ) (es : List (Label C)) (o : Option (Label C)) → i < to → to ≤ n → n ≤ length rs →
-      picked k (covered k es) o (extended-by k price place (drop i (take to (shown (take n rs))))) ≡ picked k (covered k es) (better k (covered k es) o (shown-row (shown (take n rs)) (record { cost = k .join (getD rs i r .cost) price; parent = i; place = place }))) (extended-by k price place (drop (i + 1) (take to (shown (take n rs)))))
-  picked-at k rs n to i r price place es o lt le le′ =
+  pub picked-at : (k : Kind C) (rs : List (LabelRow C)) (n to i : ℕ) (r : LabelRow C) (price : C) (place : ℕ) (skip : C → Bool) (o : Option (Label C)) → i < to → to ≤ n → n ≤ length rs →
+      picked k skip o (extended-by k price place (drop i (take to (shown (take n rs))))) ≡ picked k skip (better k skip o (shown-row (shown (take n rs)) (record { cost = k .join (getD rs i r .cost) price; parent = i; place = place }))) (extended-by k price place (drop (i + 1) (take to (shown (take n rs)))))
+  picked-at k rs n to i r price place skip o lt le le′ =
       let d : Label C = record { cost = r .cost; item = [] } in
       let ls = shown (take n rs) in
       let long : length (take n rs) ≡ n = length-take-le n rs le′ in
       let all : length (shown (take n rs)) ≡ n = length-shown (take n rs) ∙ long in
       let part : length (take to (shown (take n rs))) ≡ to = length-take-le to (shown (take n rs)) (omega arith) in
-      at-drop-more (λ l. picked k (covered k es) o (extended-by k price place l)) (take to ls) i d (omega arith)
-      ∙ ap (λ x. picked k (covered k es) (better k (covered k es) o x) (extended-by k price place (drop (i + 1) (take to ls)))) (extended-at k rs n to i r d price place lt le le′)
+      at-drop-more (λ l. picked k skip o (extended-by k price place l)) (take to ls) i d (omega arith)
+      ∙ ap (λ x. picked k skip (better k skip o x) (extended-by k price place (drop (i + 1) (take to ls)))) (extended-at k rs n to i r d price place lt le le′)
 
-  pub picked-end : (k : Kind C) (ls : List (Label C)) (to i : ℕ) (price : C) (place : ℕ) (es : List (Label C)) (o : Option (Label C)) → to ≤ i → to ≤ length ls → picked k (covered k es) o (extended-by k price place (drop i (take to ls))) ≡ o
-  picked-end k ls to i price place es o le le′ = at-drop-all (λ l. picked k (covered k es) o (extended-by k price place l)) (take to ls) i (omega (arith, length-take-le to ls le′))
+  pub picked-end : (k : Kind C) (ls : List (Label C)) (to i : ℕ) (price : C) (place : ℕ) (skip : C → Bool) (o : Option (Label C)) → to ≤ i → to ≤ length ls → picked k skip o (extended-by k price place (drop i (take to ls))) ≡ o
+  picked-end k ls to i price place skip o le le′ = at-drop-all (λ l. picked k skip o (extended-by k price place l)) (take to ls) i (omega (arith, length-take-le to ls le′))
 
   -- looking at whether a cost leads first changes nothing
-  pub better-by : (k : Kind C) (ls es : List (Label C)) (o : Option (LabelRow C)) (r : LabelRow C) → better k (covered k es) (shown-best ls o) (shown-row ls r) ≡ shown-best ls (cond (leads k o (r .cost) && not (covered k es (r .cost))) (Some r) o)
-  better-by k ls es None r = elim (cases-bool (covered k es (r .cost))) [ inl e ↦ rw e | inr e ↦ rw e ]
-  better-by k ls es (Some b) r = elim (cases-bool (covered k es (r .cost))) [
+  pub better-by : (k : Kind C) (ls : List (Label C)) (skip : C → Bool) (o : Option (LabelRow C)) (r : LabelRow C) → better k skip (shown-best ls o) (shown-row ls r) ≡ shown-best ls (cond (leads k o (r .cost) && not (skip (r .cost))) (Some r) o)
+  better-by k ls skip None r = elim (cases-bool (skip (r .cost))) [ inl e ↦ rw e | inr e ↦ rw e ]
+  better-by k ls skip (Some b) r = elim (cases-bool (skip (r .cost))) [
     | inl e ↦ elim (cases-bool (k .before (r .cost) (b .cost))) [ inl f ↦ rw (e, f) | inr f ↦ rw (e, f) ]
     | inr e ↦ elim (cases-bool (k .before (r .cost) (b .cost))) [ inl f ↦ rw (e, f) | inr f ↦ rw (e, f) ]
   ]
 
   -- what the best becomes
-  pub better-became : (k : Kind C) (ls es : List (Label C)) (o b : Option (LabelRow C)) (c j : C) (n p : ℕ) (t : Bool) → c ≡ j → t ≡ (leads k o c && not (covered k es c)) → b ≡ cond t (Some (record { cost = c; parent = n; place = p })) o → better k (covered k es) (shown-best ls o) (shown-row ls (record { cost = j; parent = n; place = p })) ≡ shown-best ls b
-  better-became k ls es o b c j n p t e h is =
-      ap (λ z. better k (covered k es) (shown-best ls o) (shown-row ls (record { cost = z; parent = n; place = p }))) (sym e)
-      ∙ better-by k ls es o (record { cost = c; parent = n; place = p })
+  pub better-became : (k : Kind C) (ls : List (Label C)) (skip : C → Bool) (o b : Option (LabelRow C)) (c j : C) (n p : ℕ) (t : Bool) → c ≡ j → t ≡ (leads k o c && not (skip c)) → b ≡ cond t (Some (record { cost = c; parent = n; place = p })) o → better k skip (shown-best ls o) (shown-row ls (record { cost = j; parent = n; place = p })) ≡ shown-best ls b
+  better-became k ls skip o b c j n p t e h is =
+      ap (λ z. better k skip (shown-best ls o) (shown-row ls (record { cost = z; parent = n; place = p }))) (sym e)
+      ∙ better-by k ls skip o (record { cost = c; parent = n; place = p })
       ∙ ap (λ z. shown-best ls (cond z (Some (record { cost = c; parent = n; place = p })) o)) (sym h)
       ∙ ap (shown-best ls) (sym is)

@@ -8,14 +8,13 @@ use lib.ListN.{length, getD, take, drop}
 use Rattle.std.specs.declared.option.Option.{Option}
 use Rattle.std.specs.declared.option.Option.the-variants.{Some, None}
 use Rattle.rules.specs.Kinds.{Kind}
-use Rattle.rules.specs.Fronts.{covered}
 use Rattle.rules.specs.Instances.{price}
 use Rattle.rules.specs.Offers.{Label}
 use Rattle.labels.specs.declared.cell.Cell.{Cell}
 use Rattle.labels.specs.declared.inbound.Inbound.{Inbound}
 use Rattle.labels.specs.declared.row.LabelRow.{LabelRow}
 use Rattle.labels.specs.Parts.{Part}
-use Rattle.labels.specs.Picks.{picked}
+use Rattle.labels.specs.Picks.{picked, passed-over}
 use Rattle.labels.specs.Queries.{Asked, row-of, place-count, may-take}
 use Rattle.labels.specs.Rows.{shown, shown-best, extended-by}
 use Rattle.labels.specs.Seeking.{barred-to}
@@ -24,9 +23,9 @@ use Rattle.labels.specs.Seeking.{barred-to}
 abbrev pub Runs : {C : Type 0} → List ℕ → ℕ → List (Label C) → List (List (Label C)) → ℕ → Type 0
 Runs starts base ls row n = (u : ℕ) → u < n → Part starts ls (base + u) (getD row u [])
 
--- the best so far, once the candidates have come: they are skipped where the cell covers them
-abbrev pub Selects : {C : Type 0} → Kind C → List (LabelRow C) → Cell → ℕ → Option (LabelRow C) → List (Label C) → Option (LabelRow C) → Type 0
-Selects k rows cell end best candidates r = let ls = shown (take end rows) in shown-best ls r ≡ picked k (covered k (drop (cell .start) ls)) (shown-best ls best) candidates
+-- the best so far, once the candidates have come, where the cell's last label costs last
+abbrev pub Selects : {C : Type 0} → Kind C → List (LabelRow C) → Cell → ℕ → Option C → Option (LabelRow C) → List (Label C) → Option (LabelRow C) → Type 0
+Selects k rows cell end last best candidates r = let ls = shown (take end rows) in shown-best ls r ≡ picked k (passed-over k last (drop (cell .start) ls)) (shown-best ls best) candidates
 
 module _ {C : Type 0} (a : Asked C) where
   -- what one move brings to the cell

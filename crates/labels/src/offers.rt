@@ -6,11 +6,12 @@ ghost use Rattle.std.specs.declared.option.Option.the-variants.{None};
 ghost use Rattle.std.specs.shelf.Maps.{nth};
 ghost use Rattle.rules.specs.Fronts.{front-of};
 ghost use Rattle.labels.specs.Landings.{Lands, row-costs, dominated-by, cell-of, run-of, standing, landed, Chooses, goes-first, shown-lead, Timely};
-ghost use Rattle.labels.specs.Picks.{comes-after, dominated, out-of-turn};
+ghost use Rattle.labels.specs.Picks.{dominated, out-of-turn};
 ghost use Rattle.labels.specs.Rows.{shown};
 use crate::landing::Landing;
 use crate::landing::Offer;
 use crate::row::LabelRow;
+use crate::rows::is_after;
 use costs::CostKind;
 
 // From which row to which the labels at the goal at a tick stand.
@@ -61,16 +62,6 @@ fn is_dominated<C: CostKind>(
         }
     }
     false
-}
-
-// Whether `c` comes after the last cost taken.
-fn is_after<C: CostKind>(last: Option<C>, c: C) -> bool
-    ensures { λ r. ⌜ r ≡ comes-after (C·CostKind .kind) last c ⌝ }
-{
-    match last {
-        Some(b) => b.before(c),
-        None => true,
-    }
 }
 
 // Whether `c` may be the next offer's cost: it comes after the last one's, and nothing dominates it.
