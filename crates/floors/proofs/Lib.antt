@@ -1,0 +1,4 @@
+mod Cells
+mod LaneTables
+mod Shut
+mod Tables
