@@ -9,3 +9,4 @@ pub mod Tabling
 pub mod Offering
 pub mod Tracing
 pub mod Arriving
+pub mod Answering

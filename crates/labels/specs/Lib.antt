@@ -8,3 +8,4 @@ pub mod Cells
 pub mod Tables
 pub mod Landings
 pub mod Arrivals
+pub mod Answers
