@@ -1,13 +1,12 @@
-// Times the label search on one instance that standard input describes, and prints what it found: the number of labels, and every offer with its walk. The best of
-// the times, in nanoseconds, goes to standard error. Beside it, `bench/` has the same search in plain Rust.
-use carts::ByItself;
-use carts::Cart;
-use carts::Constraint;
-use costs::CostKind;
+// Times the label search on one case that standard input describes, and prints what it found: the number of labels, and every offer with its walk.
+// The best of the times, in nanoseconds, goes to standard error. `bench/` has the same search in plain Rust, and says how a case is written.
+use crate::running::run_case;
+use crate::worded::PairWorded;
+use crate::worded::ZonesWorded;
+use crate::words::Words;
 use costs::Pair;
 use costs::PairKind;
 use costs::PairText;
-use costs::Text;
 use costs::Total;
 use costs::TotalKind;
 use costs::TotalText;
@@ -17,43 +16,28 @@ use costs::WorstText;
 use costs::Zones;
 use costs::ZonesKind;
 use costs::ZonesText;
-use floors::Floor;
-use floors::GridFloor;
-use floors::GridFloorFloor;
-use floors::LaneFloor;
-use floors::LaneFloorFloor;
-use labels::LabelRow;
-use labels::Query;
-use labels::count_labels;
-use labels::count_offers;
-use labels::take_offer;
 use std::error::AnyError;
 use std::io;
-use std::time::Instant;
 
+mod case;
+mod floors_read;
+mod printing;
+mod running;
+mod timing;
+mod worded;
 mod words;
 
-use words::Words;
-
-// A cost that is read from words, as the case's kind has it.
-trait Worded: CostKind {
-    fn read(words: &mut Words<'_>) -> Result<Self, AnyError>;
-}
-
-impl Worded for Pair<Total, Worst> as CostsWorded {
-    fn read(words: &mut Words<'_>) -> Result<Pair<Total, Worst>, AnyError> {
-        let total = words.number::<u32>()?;
-        let worst = words.number::<u16>()?;
-        Ok(Pair {
-            first: Total { value: total },
-            second: Worst { value: worst },
-        })
+// The first word names the kind of cost.
+fn run(rt: &LibcRuntime) -> Result<(), AnyError> {
+    let text = io::read_to_string(rt.alloc(), rt.stdin())?;
+    let mut words = Words::new(text.as_str());
+    match words.word()? {
+        "costs" => run_case::<Pair<Total, Worst>>(rt, &mut words),
+        "zones" => run_case::<Zones>(rt, &mut words),
+        _ => Err("the first word is not costs or zones".into()),
     }
 }
 
-impl Worded for Zones as ZonesWorded {
-    fn read(words: &mut Words<'_>) -> Result<Zones, AnyError> {
-        let bits = words.number::<u64>()?;
-        Ok(Zones { bits })
-    }
+fn main(rt: LibcRuntime) -> Result<(), AnyError> {
+    rt.report(run(&rt))
 }

@@ -1,0 +1,59 @@
+use crate::comparing::searches_agree;
+use crate::floors_made::make_grid;
+use crate::floors_made::make_lanes;
+use crate::generated::Generated;
+use crate::numbers::Numbers;
+use crate::trial::make_trial;
+use floors::Floor;
+use floors::GridFloorFloor;
+use floors::LaneFloorFloor;
+use labels::LabelRow;
+use labels::Query;
+use std::alloc::Global;
+use std::error::AnyError;
+
+const TRIALS: u16 = 500;
+
+const ROWS: usize = 4096;
+
+// One trial on a floor, with at most so many constraints.
+fn run_trial<F: Floor, C: Generated>(heap: Global, numbers: &mut Numbers, floor: &F, most: u8, rows: &mut [LabelRow<C>]) -> Result<bool, AnyError> {
+    let trial = make_trial::<F, C>(heap, numbers, floor, most)?;
+    let query = Query {
+        floor,
+        tariff: trial.tariff.as_slice(),
+        carts: &trial.carts,
+        horizon: trial.horizon,
+        constraints: trial.constraints.as_slice(),
+        cart: trial.cart,
+    };
+    let cart = if trial.cart == 0 { trial.carts[0] } else { trial.carts[1] };
+    Ok(searches_agree(heap, &query, cart, rows)?)
+}
+
+// A trial on a grid, or on a floor of lanes.
+fn run_numbered<C: Generated>(heap: Global, numbers: &mut Numbers, number: u16, most: u8, rows: &mut [LabelRow<C>]) -> Result<bool, AnyError> {
+    if number % 2 == 0 {
+        let floor = make_grid(heap, numbers)?;
+        run_trial(heap, numbers, &floor, most, rows)
+    } else {
+        let floor = make_lanes(numbers)?;
+        run_trial(heap, numbers, &floor, most, rows)
+    }
+}
+
+// Runs all trials of a kind of cost with at most so many constraints, prints how many agree, and says so.
+pub fn run_setting<C: Generated>(rt: &LibcRuntime, name: &str, most: u8) -> Result<u16, AnyError> {
+    let heap = rt.alloc();
+    let mut numbers = Numbers::new(1);
+    let row = LabelRow { cost: C::zero(), parent: 0, place: 0 };
+    let mut rows = vec![in heap; row; ROWS]?;
+    let mut agreed = 0u16;
+    for number in 0..TRIALS {
+        if run_numbered::<C>(heap, &mut numbers, number, most, rows.as_mut_slice())? {
+            agreed = agreed.saturating_add(1);
+        }
+    }
+    println!(rt, "{name}: {agreed} of {TRIALS} agree")?;
+    Ok(agreed)
+}
