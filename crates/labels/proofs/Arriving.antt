@@ -36,22 +36,22 @@ module _ {C : Type 0} (a : Asked C) where
       let h = a .inst .horizon in
       let may = may-stand (a .inst) (a .cart) (a .constraints) t (h - t) in
       elim (cases-lt t r) [
-        inl lt ↦ elim (cases-bool may) [
-          inl yes′ ↦ elim before [
-            inl none ↦ absurd (omega arith)
-          | inr not′ ↦ absurd (both-ways _ not′ (stands-at (a .inst) (a .cart) (a .constraints) t (h - t) yes′ r lt (omega arith)))
+        | inl lt ↦ elim (cases-bool may) [
+          | inl yes′ ↦ elim before [
+            | inl none ↦ absurd (omega arith)
+            | inr not′ ↦ absurd (both-ways _ not′ (stands-at (a .inst) (a .cart) (a .constraints) t (h - t) yes′ r lt (omega arith)))
           ]
-        | inr no′ ↦ no′ ∙ sym (lt-leb r t lt)
+          | inr no′ ↦ no′ ∙ sym (lt-leb r t lt)
         ]
-      | inr ge ↦ stands-from (a .inst) (a .cart) (a .constraints) t (h - t) (λ s l u. after s (omega arith) (omega arith)) ∙ sym (le-leb r t ge)
+        | inr ge ↦ stands-from (a .inst) (a .cart) (a .constraints) t (h - t) (λ s l u. after s (omega arith) (omega arith)) ∙ sym (le-leb r t ge)
       ]
 
   -- one tick less
   pub stands-more : (tick g : ℕ) → 0 < tick → g ≡ goal-of (a .inst) (a .cart) → may-be-at a g tick ≡ true → ((s : ℕ) → tick < s → s ≤ a .inst .horizon → may-be-at a (goal-of (a .inst) (a .cart)) s ≡ true) → (s : ℕ) → tick - 1 < s → s ≤ a .inst .horizon → may-be-at a (goal-of (a .inst) (a .cart)) s ≡ true
   stands-more tick g some e may after s lt le = elim (cases-lt tick s) [
-      inl later ↦ after s later le
+    | inl later ↦ after s later le
     | inr here ↦ let same : tick ≡ s = omega arith in ap (λ p. may-be-at a p s) (sym e) ∙ ap (may-be-at a g) (sym same) ∙ may
-    ]
+  ]
 
 -- joined lists, where the first are empty, and where each is the same
 module _ {X : Type 0} where
@@ -96,7 +96,8 @@ module _ {C : Type 0} (a : Asked C) (l : Landing) (at : LandingOf a l) (rows : L
         ticks = omega (arith, at .horizon);
         table = λ t le. omega (arith, table-room a t (t * l .places) (omega (arith, in-time t le)) places (base-of t), at .goal, long);
         up = λ t le. run-part t (in-time t le) .up;
-        held = λ t le. omega (arith, run-part t (in-time t le) .within, length-shown (take end rows), length-take-le end rows (held .within)) }
+        held = λ t le. omega (arith, run-part t (in-time t le) .within, length-shown (take end rows), length-take-le end rows (held .within));
+      }
 
   abbrev arrived : ℕ → List (Label C)
   arrived = arriving (a .inst) (a .cart) (a .constraints)

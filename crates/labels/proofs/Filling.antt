@@ -30,22 +30,22 @@ module _ {X : Type 0} (xs : List X) (j : ℕ) where
   -- what stands at j, and that nothing does
   pub nth-here : (b : X) → Some b ≡ nth xs j → (j < length xs) × (take (j + 1) xs ≡ take j xs ++ b ∷ [])
   nth-here b h = elim (cases-lt j (length xs)) [
-      inl lt ↦
+    | inl lt ↦
         let s : Some b ≡ Some (getD xs j b) = h ∙ nth-getD xs j b lt in
         let same : b ≡ getD xs j b = cc s in
         (lt, take-more xs j b lt ∙ ap (λ x. take j xs ++ x ∷ []) (sym same))
     | inr ge ↦
         let s : Some b ≡ None = h ∙ nth-past xs j ge in
         let z : _≡_ {A = ℕ} 0 1 = cc s in absurd (omega arith)
-    ]
+  ]
 
   pub nth-over : X → None ≡ nth xs j → length xs ≤ j
   nth-over d h = elim (cases-lt j (length xs)) [
-      inl lt ↦
+    | inl lt ↦
         let s : None ≡ Some (getD xs j d) = h ∙ nth-getD xs j d lt in
         let z : _≡_ {A = ℕ} 0 1 = cc s in absurd (omega arith)
     | inr ge ↦ ge
-    ]
+  ]
 
 -- the rows up to end hold what they held up to start, and the first of the cell's labels
 pub record Filling {C : Type 0} (was rows : List (LabelRow C)) (start end : ℕ) (es : List (Label C)) : Type 0 where
@@ -62,7 +62,8 @@ module _ {C : Type 0} where
         from = omega arith;
         within = le;
         some = omega arith;
-        holds = sym (append-nil (shown (take start rows))) ∙ ap (λ n. shown (take start rows) ++ take n es) (sym e) }
+        holds = sym (append-nil (shown (take start rows))) ∙ ap (λ n. shown (take start rows) ++ take n es) (sym e);
+      }
 
   long : (rows : List (LabelRow C)) (n : ℕ) → n ≤ length rows → length (shown (take n rows)) ≡ n
   long rows n le = length-shown (take n rows) ∙ length-take-le n rows le
@@ -78,22 +79,24 @@ module _ {C : Type 0} where
         within = omega (arith, length-set rows end r);
         some = omega (arith, f .from);
         holds =
-          ap shown (take-more-set rows end r lt)
-          ∙ shown-push (take end rows) r
-          ∙ ap (λ l. l ++ shown-row (shown (take end rows)) r ∷ []) (f .holds)
-          ∙ append-assoc (shown (take start was)) (take (end - start) es) (shown-row (shown (take end rows)) r ∷ [])
-          ∙ ap (λ l. shown (take start was) ++ l) (sym e)
-          ∙ ap (λ n. shown (take start was) ++ take n es) (sym on) }
+            ap shown (take-more-set rows end r lt)
+            ∙ shown-push (take end rows) r
+            ∙ ap (λ l. l ++ shown-row (shown (take end rows)) r ∷ []) (f .holds)
+            ∙ append-assoc (shown (take start was)) (take (end - start) es) (shown-row (shown (take end rows)) r ∷ [])
+            ∙ ap (λ l. shown (take start was) ++ l) (sym e)
+            ∙ ap (λ n. shown (take start was) ++ take n es) (sym on);
+      }
 
   -- what stood ready stays so as the cell grows
   pub filling-ready : (a : Asked C) (cell : Cell) (was rows : List (LabelRow C)) (starts : List ℕ) (end : ℕ) (es : List (Label C)) → length rows ≡ length was → Ready a cell was starts (cell .start) → Filling was rows (cell .start) end es → Ready a cell rows starts end
   filling-ready a cell was rows starts end es same h f = record {
-      from = f .from;
-      within = f .within;
-      few = omega (arith, h .few);
-      table = h .table;
-      runs = λ u lt. subst (λ l. Part starts l (cell .base + u) (getD (row-of a (cell .tick)) u [])) (sym (f .holds)) (part-more starts (shown (take (cell .start) was)) (take (end - cell .start) es) (cell .base + u) (getD (row-of a (cell .tick)) u []) (h .runs u lt));
-      barred = h .barred }
+    from = f .from;
+    within = f .within;
+    few = omega (arith, h .few);
+    table = h .table;
+    runs = λ u lt. subst (λ l. Part starts l (cell .base + u) (getD (row-of a (cell .tick)) u [])) (sym (f .holds)) (part-more starts (shown (take (cell .start) was)) (take (end - cell .start) es) (cell .base + u) (getD (row-of a (cell .tick)) u []) (h .runs u lt));
+    barred = h .barred;
+  }
 
 module _ {C : Type 0} (k : Kind C) (laws : Laws k) (xs : List (Label C)) (was rows : List (LabelRow C)) (start end : ℕ) (le : start ≤ length was) (f : Filling was rows start end (front-of k xs)) where
   selected : picked k (covered k (drop start (shown (take end rows)))) None xs ≡ nth (front-of k xs) (end - start)

@@ -43,9 +43,9 @@ module _ {C : Type 0} (a : Asked C) (cell : Cell) where
   one-place : (u : ℕ) (ms : List Move) → brought u ms ≡ by-all (into (cell .place) u ms)
   one-place u [] = refl
   one-place u (m ∷ ms) = elim (cases-bool (eqb (m .to) (cell .place))) [
-      inl e ↦ rw (e, eqb-true (m .to) (cell .place) e) (ap (λ l. by-one a cell (record { from = u; line = m .line }) ++ l) (one-place u ms))
+    | inl e ↦ rw (e, eqb-true (m .to) (cell .place) e) (ap (λ l. by-one a cell (record { from = u; line = m .line }) ++ l) (one-place u ms))
     | inr e ↦ rw e (one-place u ms)
-    ]
+  ]
 
   all-places : (us : List ℕ) → joined-lists (map (λ u. brought u (moves-of (a .inst) u)) us) ≡ by-all (joined-lists (map (λ u. into (cell .place) u (moves-of (a .inst) u)) us))
   all-places [] = refl

@@ -103,7 +103,7 @@ module _ {C : Type 0} (k : Kind C) (rows : List (LabelRow C)) (starts : List ℕ
       ap (λ xs. dominated k xs c) (landed-at starts l t ls le)
       ∙ dominated-append k here (landed-from starts l (t + 1) ls) c
       ∙ ap (λ b. b || dominated k (landed-from starts l (t + 1) ls) c)
-        (dominated-costs k here c ∙ ap (λ cs. dominated-by k cs c) (standing-costs (l .horizon - t) (l .goal) (run-of starts l t ls) ∙ run-costs rows starts l end t h le))
+      (dominated-costs k here c ∙ ap (λ cs. dominated-by k cs c) (standing-costs (l .horizon - t) (l .goal) (run-of starts l t ls) ∙ run-costs rows starts l end t h le))
 
   pub tick-yes : t ≤ l .horizon → true ≡ dominated-by k (row-costs (run-of starts l t rows)) c → dominated k (landed-from starts l t (shown (take end rows))) c ≡ true
   tick-yes le y = tick-dominated le ∙ ap (λ b. b || dominated k (landed-from starts l (t + 1) (shown (take end rows))) c) (sym y)
@@ -119,9 +119,9 @@ module _ {C : Type 0} (k : Kind C) (skip : C → Bool) (l : Landing) where
   better-by : (ls : List (Label C)) (o : Option (Offer C)) (x : Offer C) → better k skip (shown-lead l ls o) (shown-offer l ls x) ≡ shown-lead l ls (cond (goes-first k o (x .cost) && not (skip (x .cost))) (Some x) o)
   better-by ls None x = elim (cases-bool (skip (x .cost))) [ inl e ↦ rw e | inr e ↦ rw e ]
   better-by ls (Some b) x = elim (cases-bool (skip (x .cost))) [
-      inl e ↦ elim (cases-bool (k .before (x .cost) (b .cost))) [ inl f ↦ rw (e, f) | inr f ↦ rw (e, f) ]
+    | inl e ↦ elim (cases-bool (k .before (x .cost) (b .cost))) [ inl f ↦ rw (e, f) | inr f ↦ rw (e, f) ]
     | inr e ↦ elim (cases-bool (k .before (x .cost) (b .cost))) [ inl f ↦ rw (e, f) | inr f ↦ rw (e, f) ]
-    ]
+  ]
 
   pub lead-became : (ls : List (Label C)) (o b : Option (Offer C)) (x : Offer C) (t : Bool) → t ≡ (goes-first k o (x .cost) && not (skip (x .cost))) → b ≡ cond t (Some x) o → better k skip (shown-lead l ls o) (shown-offer l ls x) ≡ shown-lead l ls b
   lead-became ls o b x t h is = better-by ls o x ∙ ap (λ z. shown-lead l ls (cond z (Some x) o)) (sym h) ∙ ap (shown-lead l ls) (sym is)
@@ -137,7 +137,7 @@ module _ {C : Type 0} (k : Kind C) (skip : C → Bool) (l : Landing) where
       let within : i < length (shown (take n rs)) = omega arith in
       let same = getD-take to ls i d lt in
       let is : _≡_ {A = Label C} (record { cost = getD (take to (shown (take n rs))) i d .cost; item = replicate (l .horizon - t) (l .goal) ++ getD (take to (shown (take n rs))) i d .item }) (shown-offer l (shown (take n rs)) (record { cost = getD rs i r .cost; label = i; tick = t })) =
-          λ j. record { cost = (ap (λ x. x .cost) same ∙ cost-at rs n i r d (omega arith) le′) j; item = replicate (l .horizon - t) (l .goal) ++ (ap (λ x. x .item) same ∙ sym (getD-map (λ x. x .item) ls i d [] within)) j } in
+      λ j. record { cost = (ap (λ x. x .cost) same ∙ cost-at rs n i r d (omega arith) le′) j; item = replicate (l .horizon - t) (l .goal) ++ (ap (λ x. x .item) same ∙ sym (getD-map (λ x. x .item) ls i d [] within)) j } in
       at-drop-more (λ xs. picked k skip o (standing (l .horizon - t) (l .goal) xs)) (take to ls) i d (omega arith)
       ∙ ap (λ x. picked k skip (better k skip o x) (standing (l .horizon - t) (l .goal) (drop (i + 1) (take to ls)))) is
 

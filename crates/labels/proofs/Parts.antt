@@ -49,26 +49,29 @@ module _ {X : Type 0} where
   marked-none begins e = record { at = λ c le. let z : c ≡ 0 = omega arith in ap (λ x. getD begins x 0) z ∙ e ∙ ap (λ x. total-length (take {A = List X} x [])) (sym z) }
 
   pub marked-more : (begins : List ℕ) (cells : List (List X)) (cell : List X) (m n : ℕ) → Marked begins cells → m ≡ length cells + 1 → m < length begins → n ≡ total-length (cells ++ cell ∷ []) → Marked (set begins m n) (cells ++ cell ∷ [])
-  marked-more begins cells cell m n marks e lt size = record { at = λ c le.
-      elim (cases-eq c m) [
-        inl same ↦
-          ap (λ x. getD (set begins m n) x 0) same
-          ∙ getD-set-same begins m n 0 lt
-          ∙ size
-          ∙ ap total-length (sym (take-all c (cells ++ cell ∷ []) (omega (arith, length-push cells cell))))
-      | inr ne ↦
-          let old : c ≤ length cells = omega (arith, length-push cells cell) in
-          getD-set-other begins m c n 0 ne
-          ∙ marks .at c old
-          ∙ ap total-length (sym (take-append-le c cells (cell ∷ []) old))
-      ] }
+  marked-more begins cells cell m n marks e lt size = record {
+    at = λ c le.
+        elim (cases-eq c m) [
+          | inl same ↦
+              ap (λ x. getD (set begins m n) x 0) same
+              ∙ getD-set-same begins m n 0 lt
+              ∙ size
+              ∙ ap total-length (sym (take-all c (cells ++ cell ∷ []) (omega (arith, length-push cells cell))))
+          | inr ne ↦
+              let old : c ≤ length cells = omega (arith, length-push cells cell) in
+              getD-set-other begins m c n 0 ne
+              ∙ marks .at c old
+              ∙ ap total-length (sym (take-append-le c cells (cell ∷ []) old))
+        ];
+  }
 
   -- a part stays where it is when the list grows
   pub part-more : (begins : List ℕ) (xs more : List X) (n : ℕ) (part : List X) → Part begins xs n part → Part begins (xs ++ more) n part
   part-more begins xs more n part h = record {
-      up = h .up;
-      within = omega (arith, h .within, length-append xs more);
-      same = ap (drop (getD begins n 0)) (take-append-le (getD begins (n + 1) 0) xs more (h .within)) ∙ h .same }
+    up = h .up;
+    within = omega (arith, h .within, length-append xs more);
+    same = ap (drop (getD begins n 0)) (take-append-le (getD begins (n + 1) 0) xs more (h .within)) ∙ h .same;
+  }
 
   -- each cell stands where the marks say
   pub part-at : (begins : List ℕ) (xs : List X) (cells : List (List X)) (more : List X) (c : ℕ) → xs ≡ joined-lists cells ++ more → Marked begins cells → c < length cells → Part begins xs c (getD cells c [])
@@ -80,11 +83,12 @@ module _ {X : Type 0} where
         up = omega (arith, total-more cells c lt);
         within = omega (arith, ap length whole, length-append (joined-lists cells) more);
         same =
-          ap (λ a. drop a (take (getD begins (c + 1) 0) xs)) m
-          ∙ ap (λ a. drop (total-length (take c cells)) (take a xs)) m′
-          ∙ ap (λ l. drop (total-length (take c cells)) (take (total-length (take (c + 1) cells)) l)) whole
-          ∙ ap (drop (total-length (take c cells))) (take-append-le (total-length (take (c + 1) cells)) (joined-lists cells) more fits)
-          ∙ part-of cells c lt }
+            ap (λ a. drop a (take (getD begins (c + 1) 0) xs)) m
+            ∙ ap (λ a. drop (total-length (take c cells)) (take a xs)) m′
+            ∙ ap (λ l. drop (total-length (take c cells)) (take (total-length (take (c + 1) cells)) l)) whole
+            ∙ ap (drop (total-length (take c cells))) (take-append-le (total-length (take (c + 1) cells)) (joined-lists cells) more fits)
+            ∙ part-of cells c lt;
+      }
 
   -- what each element of a part has, the element at a place of it has
   pub part-has : (P : X → Type 0) (begins : List ℕ) (xs : List X) (n : ℕ) (part : List X) → Part begins xs n part → All P part → (e : ℕ) (d : X) → getD begins n 0 ≤ e → e < getD begins (n + 1) 0 → P (getD xs e d)

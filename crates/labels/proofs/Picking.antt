@@ -24,22 +24,22 @@ use Rattle.labels.specs.Picks.{sooner, better, picked, dominated, last-cost, c
 module _ {C : Type 0} (k : Kind C) (laws : Laws k) where
   not-back : (a b : C) → Before k a b → k .before b a ≡ false
   not-back a b h = elim (cases-bool (k .before b a)) [
-      inl e ↦ absurd (laws .before-irrefl a (laws .before-trans a b a h e))
+    | inl e ↦ absurd (laws .before-irrefl a (laws .before-trans a b a h e))
     | inr e ↦ e
-    ]
+  ]
 
   not-self : (a : C) → k .before a a ≡ false
   not-self a = elim (cases-bool (k .before a a)) [
-      inl e ↦ absurd (laws .before-irrefl a e)
+    | inl e ↦ absurd (laws .before-irrefl a e)
     | inr e ↦ e
-    ]
+  ]
 
   at-most-cases : (a b : C) → AtMost k a b → (b ≡ a) ⊎ Before k a b
   at-most-cases a b h = elim (laws .before-total a b) [
-      inl e ↦ inl (sym e)
+    | inl e ↦ inl (sym e)
     | inr (inl e) ↦ inr e
     | inr (inr e) ↦ inr (laws .at-most-before a b (h, λ s. laws .before-irrefl b (subst (λ x. Before k b x) s e)))
-    ]
+  ]
 
 module _ {C B : Type 0} (k : Kind C) where
   -- f is the first entry of its cost
@@ -59,9 +59,9 @@ module _ {C B : Type 0} (k : Kind C) where
 
   covers-true : (es : List (Entry C B)) (c : C) → Covered k es c → covered k es c ≡ true
   covers-true es c h = elim (cases-bool (covered k es c)) [
-      inl e ↦ e
+    | inl e ↦ e
     | inr e ↦ absurd (not-covered es c h (covered-false k es c e))
-    ]
+  ]
 
   first-more : (ys : List (Entry C B)) (x e : Entry C B) → FirstIn ys e → FirstIn (ys ++ x ∷ []) e
   first-more [] x e h = absurd h
@@ -77,15 +77,16 @@ module _ {C B : Type 0} (k : Kind C) where
     kept-more ys es x h =
         let more = all-weaker (FirstIn ys) (FirstIn (ys ++ x ∷ [])) (first-more ys x) es (h .first) in
         elim (cases-bool (covered k es (x .cost))) [
-          inl b ↦ rw b (record { covers = all-push (λ y. Covered k es (y .cost)) ys x (h .covers) (covered-true k es (x .cost) b); first = more })
-        | inr b ↦
-            let other = λ (y : Entry C B) (c : Covered k es (y .cost)) (s : y .cost ≡ x .cost). not-covered es (x .cost) (subst (Covered k es) s c) (covered-false k es (x .cost) b) in
-            rw b (record {
-              covers = all-push (λ y. Covered k (put k es x) (y .cost)) ys x
-                (all-weaker (λ y. Covered k es (y .cost)) (λ y. Covered k (put k es x) (y .cost)) (λ y c. covered-put k laws es x (y .cost) (inr c)) ys (h .covers))
-                (covered-put k laws es x (x .cost) (inl (laws .at-most-refl (x .cost))));
-              first = all-put k (FirstIn (ys ++ x ∷ [])) es x more
-                (first-last ys x (all-weaker (λ y. Covered k es (y .cost)) (λ y. y .cost ≡ x .cost → ⊥) other ys (h .covers))) })
+          | inl b ↦ rw b (record { covers = all-push (λ y. Covered k es (y .cost)) ys x (h .covers) (covered-true k es (x .cost) b); first = more })
+          | inr b ↦
+              let other = λ (y : Entry C B) (c : Covered k es (y .cost)) (s : y .cost ≡ x .cost). not-covered es (x .cost) (subst (Covered k es) s c) (covered-false k es (x .cost) b) in
+              rw b (record {
+                covers = all-push (λ y. Covered k (put k es x) (y .cost)) ys x
+                    (all-weaker (λ y. Covered k es (y .cost)) (λ y. Covered k (put k es x) (y .cost)) (λ y c. covered-put k laws es x (y .cost) (inr c)) ys (h .covers))
+                    (covered-put k laws es x (x .cost) (inl (laws .at-most-refl (x .cost))));
+                first = all-put k (FirstIn (ys ++ x ∷ [])) es x more
+                    (first-last ys x (all-weaker (λ y. Covered k es (y .cost)) (λ y. y .cost ≡ x .cost → ⊥) other ys (h .covers)));
+              })
         ]
 
     kept-all : (xs ys es : List (Entry C B)) → Kept ys es → Kept (ys ++ xs) (added-all k es xs)
@@ -104,13 +105,13 @@ module _ {C B : Type 0} (k : Kind C) (laws : Laws k) (skip : C → Bool) where
   picked-stays f [] h = refl
   picked-stays f (x ∷ xs) h =
       let stays : better k skip (Some f) x ≡ Some f = elim (cases-bool (skip (x .cost))) [
-          inl c ↦ rw c
+        | inl c ↦ rw c
         | inr c ↦ rw c (elim (h .0) [
-            inl d ↦ absurd (both-ways (skip (x .cost)) c d)
+          | inl d ↦ absurd (both-ways (skip (x .cost)) c d)
           | inr (inl s) ↦ rw s (rw (not-self k laws (f .cost)))
           | inr (inr s) ↦ rw (not-back k laws (f .cost) (x .cost) s)
-          ])
-        ] in
+        ])
+      ] in
       ap (λ o. picked k skip o xs) stays ∙ picked-stays f xs (h .1)
 
   abbrev After : Entry C B → Option (Entry C B) → Type 0
@@ -124,9 +125,9 @@ module _ {C B : Type 0} (k : Kind C) (laws : Laws k) (skip : C → Bool) where
   waits : (f x : Entry C B) (o : Option (Entry C B)) → After f o → Before k (f .cost) (x .cost) → After f (sooner k o x)
   waits f x None h l = l
   waits f x (Some b) h l = elim (cases-bool (k .before (x .cost) (b .cost))) [
-      inl e ↦ rw e l
+    | inl e ↦ rw e l
     | inr e ↦ rw e h
-    ]
+  ]
 
   picked-is : (f : Entry C B) (o : Option (Entry C B)) (xs : List (Entry C B)) → skip (f .cost) ≡ false → After f o → FirstIn k xs f → All (Late f) xs → picked k skip o xs ≡ Some f
   picked-is f o [] free a fi h = absurd fi
@@ -134,13 +135,13 @@ module _ {C B : Type 0} (k : Kind C) (laws : Laws k) (skip : C → Bool) where
       let here : better k skip o x ≡ Some f = ap (better k skip o) s ∙ (rw free (comes f o a)) in
       ap (λ p. picked k skip p xs) here ∙ picked-stays f xs (h .1)
   picked-is f o (x ∷ xs) free a (inr p) h = elim (cases-bool (skip (x .cost))) [
-      inl c ↦ rw c (picked-is f o xs free a (p .1) (h .1))
+    | inl c ↦ rw c (picked-is f o xs free a (p .1) (h .1))
     | inr c ↦ rw c (picked-is f (sooner k o x) xs free (waits f x o a (elim (h .0) [
-          inl d ↦ absurd (both-ways (skip (x .cost)) c d)
-        | inr (inl s) ↦ absurd (p .0 s)
-        | inr (inr s) ↦ s
-        ])) (p .1) (h .1))
-    ]
+      | inl d ↦ absurd (both-ways (skip (x .cost)) c d)
+      | inr (inl s) ↦ absurd (p .0 s)
+      | inr (inr s) ↦ s
+    ])) (p .1) (h .1))
+  ]
 
   picked-none : (xs : List (Entry C B)) → All (λ x. skip (x .cost) ≡ true) xs → picked k skip None xs ≡ None
   picked-none [] h = refl
@@ -151,9 +152,9 @@ module _ {C B : Type 0} (k : Kind C) (laws : Laws k) where
   late-rest : (f : Entry C B) (rs : List (Entry C B)) (c : C) → All (λ r. Before k (f .cost) (r .cost) × (k .at-most (f .cost) (r .cost) ≡ false)) rs → Covered k rs c → Before k (f .cost) c
   late-rest f [] c h cov = absurd cov
   late-rest f (r ∷ rs) c h (inl m) = elim (at-most-cases k laws (r .cost) c m) [
-      inl s ↦ subst (λ z. Before k (f .cost) z) (sym s) (h .0 .0)
+    | inl s ↦ subst (λ z. Before k (f .cost) z) (sym s) (h .0 .0)
     | inr b ↦ laws .before-trans (f .cost) (r .cost) c (h .0 .0) b
-    ]
+  ]
   late-rest f (r ∷ rs) c h (inr m) = late-rest f rs c (h .1) m
 
   any-parts : (P : Entry C B → Type 0) (es rs : List (Entry C B)) → Any P (es ++ rs) → Any P es ⊎ Any P rs
@@ -203,8 +204,8 @@ module _ {C B : Type 0} (k : Kind C) (laws : Laws k) where
   not-dominator (x ∷ xs) e c (inl s) h le =
       let no = subst (λ z. (k .at-most (z .cost) c && k .before (z .cost) c) ≡ false) s (or-parts _ _ h .0) in
       elim (at-most-cases k laws (e .cost) c le) [
-        inl same ↦ sym same
-      | inr b ↦ absurd (both-ways _ no (and-from _ _ le b))
+        | inl same ↦ sym same
+        | inr b ↦ absurd (both-ways _ no (and-from _ _ le b))
       ]
   not-dominator (x ∷ xs) e c (inr p) h le = not-dominator xs e c (p .1) (or-parts _ _ h .1) le
 
@@ -233,34 +234,34 @@ module _ {C B : Type 0} (k : Kind C) (laws : Laws k) where
     picks-uncovered =
         picked-is k laws (covered k es) f None xs (ranked-free es f rs ranked) tt first-next
         (all-weaker (λ x. Covered k (es ++ f ∷ rs) (x .cost)) (Late k laws (covered k es) f) (λ x c. elim (any-parts _ es (f ∷ rs) c) [
-            inl m ↦ inl (covers-true k es (x .cost) m)
+          | inl m ↦ inl (covers-true k es (x .cost) m)
           | inr (inl m) ↦ inr (at-most-cases k laws (f .cost) (x .cost) m)
           | inr (inr m) ↦ inr (inr (late-rest f rs (x .cost) (ranked-back es (f ∷ rs) ranked .0) m))
-          ]) xs (whole .covers))
+        ]) xs (whole .covers))
 
     -- what the front covers and is at most f, f is at most
     reaches-next : (c : C) → Covered k (es ++ f ∷ rs) c → AtMost k c (f .cost) → AtMost k (f .cost) c
     reaches-next c cov le = elim (any-parts _ es (f ∷ rs) cov) [
-        inl m ↦ absurd (not-covered k es (f .cost) (any-weaker _ _ (λ e l. laws .at-most-trans (e .cost) c (f .cost) l le) es m) (covered-false k es (f .cost) (ranked-free es f rs ranked)))
+      | inl m ↦ absurd (not-covered k es (f .cost) (any-weaker _ _ (λ e l. laws .at-most-trans (e .cost) c (f .cost) l le) es m) (covered-false k es (f .cost) (ranked-free es f rs ranked)))
       | inr (inl m) ↦ m
       | inr (inr m) ↦
           let later = late-rest f rs c (ranked-back es (f ∷ rs) ranked .0) m in
           absurd (elim (at-most-cases k laws c (f .cost) le) [
-            inl e ↦ laws .before-irrefl c (subst (λ z. Before k z c) e later)
-          | inr b ↦ laws .before-irrefl c (laws .before-trans c (f .cost) c b later)
+            | inl e ↦ laws .before-irrefl c (subst (λ z. Before k z c) e later)
+            | inr b ↦ laws .before-irrefl c (laws .before-trans c (f .cost) c b later)
           ])
-      ]
+    ]
 
     next-undominated : (ys : List (Entry C B)) → All (λ y. Covered k (es ++ f ∷ rs) (y .cost)) ys → dominated k ys (f .cost) ≡ false
     next-undominated [] h = refl
     next-undominated (y ∷ ys) h =
         or-from _ _ (elim (cases-bool (k .at-most (y .cost) (f .cost))) [
-            inl le ↦ elim (cases-bool (k .before (y .cost) (f .cost))) [
-              inl b ↦ absurd (laws .before-irrefl (f .cost) (subst (λ z. Before k z (f .cost)) (laws .at-most-antisym (y .cost) (f .cost) le (reaches-next (y .cost) (h .0) le)) b))
+          | inl le ↦ elim (cases-bool (k .before (y .cost) (f .cost))) [
+            | inl b ↦ absurd (laws .before-irrefl (f .cost) (subst (λ z. Before k z (f .cost)) (laws .at-most-antisym (y .cost) (f .cost) le (reaches-next (y .cost) (h .0) le)) b))
             | inr b ↦ rw (le, b)
-            ]
+          ]
           | inr no-le ↦ rw no-le
-          ]) (next-undominated ys (h .1))
+        ]) (next-undominated ys (h .1))
 
     -- after some of a front, the next is the first in order after the last of them that nothing dominates
     picks-in-turn : picked k (out-of-turn k (last-cost k None es) xs) None xs ≡ Some f
@@ -270,25 +271,25 @@ module _ {C B : Type 0} (k : Kind C) (laws : Laws k) where
         let free : out-of-turn k (last-cost k None es) xs (f .cost) ≡ false = rw (in-turn, next-undominated xs (whole .covers)) in
         picked-is k laws (out-of-turn k last xs) f None xs free tt first-next
         (all-weaker (λ x. Covered k (es ++ f ∷ rs) (x .cost)) (Late k laws (out-of-turn k last xs) f) (λ x c. elim (cases-bool (out-of-turn k last xs (x .cost))) [
-            inl skipped ↦ inl skipped
+          | inl skipped ↦ inl skipped
           | inr due ↦ inr (due-late x (or-parts _ _ due) c)
-          ]) xs (whole .covers))
+        ]) xs (whole .covers))
       where
         due-late : (x : Entry C B) → (not (comes-after k (last-cost k None es) (x .cost)) ≡ false) × (dominated k xs (x .cost) ≡ false) → Covered k (es ++ f ∷ rs) (x .cost) → (x .cost ≡ f .cost) ⊎ Before k (f .cost) (x .cost)
         due-late x due c = elim (any-parts _ es (f ∷ rs) (due-equal xs (es ++ f ∷ rs) (x .cost) (whole .first) (due .1) c)) [
-            inl m ↦ absurd (not-taken None es (x .cost) (ranked-part es (f ∷ rs) ranked) (not-false _ (due .0)) m)
+          | inl m ↦ absurd (not-taken None es (x .cost) (ranked-part es (f ∷ rs) ranked) (not-false _ (due .0)) m)
           | inr (inl e) ↦ inl (sym e)
           | inr (inr m) ↦ inr (after-rest f rs (x .cost) (ranked-back es (f ∷ rs) ranked .0) m)
-          ]
+        ]
 
   all-out : (xs : List (Entry C B)) (ys : List (Entry C B)) → All (λ y. Covered k (front-of k xs) (y .cost)) ys → All (λ y. out-of-turn k (last-cost k None (front-of k xs)) xs (y .cost) ≡ true) ys
   all-out xs [] h = tt
   all-out xs (y ∷ ys) h = (
     elim (cases-bool (out-of-turn k (last-cost k None (front-of k xs)) xs (y .cost))) [
-      inl e ↦ e
-    | inr due ↦
-        let parts = or-parts _ _ due in
-        absurd (not-taken None (front-of k xs) (y .cost) (ranked-front k laws xs) (not-false _ (parts .0)) (due-equal xs (front-of k xs) (y .cost) (front-kept k laws xs .first) (parts .1) (h .0)))
+      | inl e ↦ e
+      | inr due ↦
+          let parts = or-parts _ _ due in
+          absurd (not-taken None (front-of k xs) (y .cost) (ranked-front k laws xs) (not-false _ (parts .0)) (due-equal xs (front-of k xs) (y .cost) (front-kept k laws xs .first) (parts .1) (h .0)))
     ],
     all-out xs ys (h .1),
   )
@@ -300,19 +301,19 @@ module _ {C B : Type 0} (k : Kind C) (laws : Laws k) where
     -- what is picked once the first j of the front are there is the next of it
     pub picks-next : Entry C B → picked k (covered k (take j (front-of k xs))) None xs ≡ nth (front-of k xs) j
     picks-next d = elim (cases-lt j (length (front-of k xs))) [
-        inl lt ↦ picks-uncovered xs (take j (front-of k xs)) (getD (front-of k xs) j d) (drop (j + 1) (front-of k xs)) (front-split d lt) ∙ sym (nth-getD (front-of k xs) j d lt)
+      | inl lt ↦ picks-uncovered xs (take j (front-of k xs)) (getD (front-of k xs) j d) (drop (j + 1) (front-of k xs)) (front-split d lt) ∙ sym (nth-getD (front-of k xs) j d lt)
       | inr ge ↦
           picked-none k laws (covered k (take j (front-of k xs))) xs
           (rw (take-all j (front-of k xs) ge) (all-weaker (λ x. Covered k (front-of k xs) (x .cost)) (λ x. covered k (front-of k xs) (x .cost) ≡ true) (λ x c. covers-true k (front-of k xs) (x .cost) c) xs (front-kept k laws xs .covers)))
           ∙ sym (nth-past (front-of k xs) j ge)
-      ]
+    ]
 
     -- the same, with the last of them alone
     pub picks-after : Entry C B → picked k (out-of-turn k (last-cost k None (take j (front-of k xs))) xs) None xs ≡ nth (front-of k xs) j
     picks-after d = elim (cases-lt j (length (front-of k xs))) [
-        inl lt ↦ picks-in-turn xs (take j (front-of k xs)) (getD (front-of k xs) j d) (drop (j + 1) (front-of k xs)) (front-split d lt) ∙ sym (nth-getD (front-of k xs) j d lt)
+      | inl lt ↦ picks-in-turn xs (take j (front-of k xs)) (getD (front-of k xs) j d) (drop (j + 1) (front-of k xs)) (front-split d lt) ∙ sym (nth-getD (front-of k xs) j d lt)
       | inr ge ↦
           picked-none k laws (out-of-turn k (last-cost k None (take j (front-of k xs))) xs) xs
           (rw (take-all j (front-of k xs) ge) (all-out xs xs (front-kept k laws xs .covers)))
           ∙ sym (nth-past (front-of k xs) j ge)
-      ]
+    ]

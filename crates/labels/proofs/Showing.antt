@@ -108,9 +108,9 @@ module _ {C : Type 0} where
   pub better-by : (k : Kind C) (ls es : List (Label C)) (o : Option (LabelRow C)) (r : LabelRow C) → better k (covered k es) (shown-best ls o) (shown-row ls r) ≡ shown-best ls (cond (leads k o (r .cost) && not (covered k es (r .cost))) (Some r) o)
   better-by k ls es None r = elim (cases-bool (covered k es (r .cost))) [ inl e ↦ rw e | inr e ↦ rw e ]
   better-by k ls es (Some b) r = elim (cases-bool (covered k es (r .cost))) [
-      inl e ↦ elim (cases-bool (k .before (r .cost) (b .cost))) [ inl f ↦ rw (e, f) | inr f ↦ rw (e, f) ]
+    | inl e ↦ elim (cases-bool (k .before (r .cost) (b .cost))) [ inl f ↦ rw (e, f) | inr f ↦ rw (e, f) ]
     | inr e ↦ elim (cases-bool (k .before (r .cost) (b .cost))) [ inl f ↦ rw (e, f) | inr f ↦ rw (e, f) ]
-    ]
+  ]
 
   -- what the best becomes
   pub better-became : (k : Kind C) (ls es : List (Label C)) (o b : Option (LabelRow C)) (c j : C) (n p : ℕ) (t : Bool) → c ≡ j → t ≡ (leads k o c && not (covered k es c)) → b ≡ cond t (Some (record { cost = c; parent = n; place = p })) o → better k (covered k es) (shown-best ls o) (shown-row ls (record { cost = j; parent = n; place = p })) ≡ shown-best ls b

@@ -155,9 +155,9 @@ module _ {C : Type 0} (a : Asked C) where
   total-mono : (s t : ℕ) → s ≤ t → total-length (cells-before a s) ≤ total-length (cells-before a t)
   total-mono s zero le = let e : s ≡ 0 = omega arith in omega (arith, ap (λ x. total-length (cells-before a x)) e)
   total-mono s (suc t) le = elim (cases-eq s (suc t)) [
-      inl e ↦ omega (arith, ap (λ x. total-length (cells-before a x)) e)
+    | inl e ↦ omega (arith, ap (λ x. total-length (cells-before a x)) e)
     | inr ne ↦ omega (arith, total-mono s t (omega arith), ap total-length (cells-on t), total-append (cells-before a t) (row-of a t))
-    ]
+  ]
 
   pub length-cells : (t : ℕ) → length (cells-before a t) ≡ t * place-count a
   unfolding cells-before
@@ -191,17 +191,19 @@ module _ {C : Type 0} (a : Asked C) where
   -- the first layer, and the next
   pub laid-first : (layer : Layer) → layer .tick ≡ 0 → layer .base ≡ 0 → layer .busy ≡ busy-at a 0 → Laid a layer
   laid-first layer t b busy = record {
-      busy = busy ∙ ap (busy-at a) (sym t);
-      was-busy = λ s e. absurd (omega arith);
-      base = b ∙ base-none ∙ ap (λ x. length (cells-before a x)) (sym t);
-      before = λ s e. absurd (omega arith) }
+    busy = busy ∙ ap (busy-at a) (sym t);
+    was-busy = λ s e. absurd (omega arith);
+    base = b ∙ base-none ∙ ap (λ x. length (cells-before a x)) (sym t);
+    before = λ s e. absurd (omega arith);
+  }
 
   pub laid-next : (was layer : Layer) (n : ℕ) → n ≡ place-count a → Laid a was → layer .tick ≡ was .tick + 1 → layer .base ≡ was .base + n → layer .before ≡ was .base → layer .busy ≡ busy-at a (layer .tick) → layer .«was_busy» ≡ was .busy → Laid a layer
   laid-next was layer n e h t b before busy was-busy = record {
-      busy = busy;
-      was-busy = λ s on. let same : was .tick ≡ s = omega arith in was-busy ∙ h .busy ∙ ap (busy-at a) same;
-      base = b ∙ base-more (was .tick) (was .base) n e (h .base) ∙ ap (λ x. length (cells-before a x)) (sym t);
-      before = λ s on. let same : was .tick ≡ s = omega arith in before ∙ h .base ∙ ap (λ x. length (cells-before a x)) same }
+    busy = busy;
+    was-busy = λ s on. let same : was .tick ≡ s = omega arith in was-busy ∙ h .busy ∙ ap (busy-at a) same;
+    base = b ∙ base-more (was .tick) (was .base) n e (h .base) ∙ ap (λ x. length (cells-before a x)) (sym t);
+    before = λ s on. let same : was .tick ≡ s = omega arith in before ∙ h .base ∙ ap (λ x. length (cells-before a x)) same;
+  }
 
   -- the cells of a tick, among all
   cells-split : (t h : ℕ) → t ≤ h → (more : List (List (Label C))) × (cells-before a (suc h) ≡ (cells-before a t ++ row-of a t) ++ more)
@@ -209,11 +211,11 @@ module _ {C : Type 0} (a : Asked C) where
       let e : t ≡ 0 = omega arith in
       ([], cells-on 0 ∙ ap (λ x. cells-before a x ++ row-of a x) (sym e) ∙ sym (append-nil (cells-before a t ++ row-of a t)))
   cells-split t (suc h) le = elim (cases-eq t (suc h)) [
-      inl e ↦ ([], cells-on (suc h) ∙ ap (λ x. cells-before a x ++ row-of a x) (sym e) ∙ sym (append-nil (cells-before a t ++ row-of a t)))
+    | inl e ↦ ([], cells-on (suc h) ∙ ap (λ x. cells-before a x ++ row-of a x) (sym e) ∙ sym (append-nil (cells-before a t ++ row-of a t)))
     | inr ne ↦
         let s = cells-split t h (omega arith) in
         (s .0 ++ row-of a (suc h), cells-on (suc h) ∙ ap (λ l. l ++ row-of a (suc h)) (s .1) ∙ append-assoc (cells-before a t ++ row-of a t) (s .0) (row-of a (suc h)))
-    ]
+  ]
 
   -- the labels of a place at a tick stand where the beginnings say
   pub tick-run : (t p base : ℕ) (rows : List (LabelRow C)) (starts : List ℕ) (n : ℕ) → t ≤ a .inst .horizon → p < place-count a → base ≡ length (cells-before a t) → Hold rows starts (all-cells a) n → Part starts (shown (take n rows)) (base + p) (getD (row-of a t) p [])

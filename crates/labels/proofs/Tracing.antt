@@ -57,11 +57,11 @@ module _ {C : Type 0} where
 
   trace-inside : (rs : List (LabelRow C)) (r p : ℕ) (tail : List ℕ) → trace-at (shown rs) r ≡ p ∷ tail → r < length rs
   trace-inside rs r p tail is = elim (cases-lt r (length rs)) [
-      inl lt ↦ lt
+    | inl lt ↦ lt
     | inr ge ↦
         let none : trace-at (shown rs) r ≡ [] = ap (λ l. trace-at (shown l) r) (sym (take-all (length rs) rs (omega arith))) ∙ trace-past rs (length rs) r ge (omega arith) in
         let z : _≡_ {A = ℕ} 0 1 = cc (none, is) in absurd (omega arith)
-    ]
+  ]
 
   module _ (rs : List (LabelRow C)) (r p : ℕ) (tail : List ℕ) (d : LabelRow C) (is : trace-at (shown rs) r ≡ p ∷ tail) where
     parts : getD rs r d .place ∷ trace-at (shown (take r rs)) (getD rs r d .parent) ≡ p ∷ tail
@@ -75,8 +75,8 @@ module _ {C : Type 0} where
         let lt = trace-inside rs r p tail is in
         let rest : trace-at (shown (take r rs)) (getD rs r d .parent) ≡ tail = cc parts in
         elim (cases-lt (getD rs r d .parent) r) [
-          inl before ↦ trace-part rs r (getD rs r d .parent) before (omega arith) ∙ rest
-        | inr past ↦ absurd (omega (arith, ap length (sym rest ∙ trace-past rs r (getD rs r d .parent) past (omega arith))))
+          | inl before ↦ trace-part rs r (getD rs r d .parent) before (omega arith) ∙ rest
+          | inr past ↦ absurd (omega (arith, ap length (sym rest ∙ trace-past rs r (getD rs r d .parent) past (omega arith))))
         ]
 
 -- writing a trace back to front: at tick left - 1 comes the next place

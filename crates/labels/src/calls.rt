@@ -18,7 +18,10 @@ use costs::CostKind;
 use floors::Floor;
 
 // Why a query is refused before any label is counted, if it is.
-fn refuses<F: Floor, C: CostKind, B: Constrains>(query: &Query<'_, F, C, B>, rows: usize) -> Option<LabelRefusal>
+fn refuses<F: Floor, C: CostKind, B: Constrains>(
+    query: &Query<'_, F, C, B>,
+    rows: usize,
+) -> Option<LabelRefusal>
     ensures { λ r. ⌜ r ≡ refusal (asked (F·Floor .moves) (C·CostKind .kind) (B·Constrains .constraint) (now (query .entry))) rows ⌝ }
 {
     if query.horizon > 64 {
@@ -40,7 +43,11 @@ fn refuses<F: Floor, C: CostKind, B: Constrains>(query: &Query<'_, F, C, B>, row
 }
 
 // All labels of the cart, in the rows; and where each cell begins.
-fn lay_out<F: Floor, C: CostKind, B: Constrains>(query: &Query<'_, F, C, B>, rows: &mut [LabelRow<C>], starts: &mut [u16]) -> Result<usize, LabelRefusal>
+fn lay_out<F: Floor, C: CostKind, B: Constrains>(
+    query: &Query<'_, F, C, B>,
+    rows: &mut [LabelRow<C>],
+    starts: &mut [u16],
+) -> Result<usize, LabelRefusal>
     requires { ⌜ length (now starts) ≡ 8321 ⌝ }
     ensures { λ r. ⌜ LaidOut (asked (F·Floor .moves) (C·CostKind .kind) (B·Constrains .constraint) (now (query .entry))) (length (now (rows .entry))) (now (rows .exit)) (now (starts .exit)) r ⌝ }
 {
@@ -54,7 +61,10 @@ fn lay_out<F: Floor, C: CostKind, B: Constrains>(query: &Query<'_, F, C, B>, row
 }
 
 // How many labels the cart has.
-pub fn count_labels<F: Floor, C: CostKind, B: Constrains>(query: &Query<'_, F, C, B>, rows: &mut [LabelRow<C>]) -> Result<u16, LabelRefusal>
+pub fn count_labels<F: Floor, C: CostKind, B: Constrains>(
+    query: &Query<'_, F, C, B>,
+    rows: &mut [LabelRow<C>],
+) -> Result<u16, LabelRefusal>
     ensures { λ r. ⌜ r ≡ told (hindrance (asked (F·Floor .moves) (C·CostKind .kind) (B·Constrains .constraint) (now (query .entry))) (length (now (rows .entry)))) (label-total (asked (F·Floor .moves) (C·CostKind .kind) (B·Constrains .constraint) (now (query .entry)))) ⌝ }
 {
     let mut starts = [0u16; 8321];
@@ -65,7 +75,10 @@ pub fn count_labels<F: Floor, C: CostKind, B: Constrains>(query: &Query<'_, F, C
 }
 
 // How many offers the cart has.
-pub fn count_offers<F: Floor, C: CostKind, B: Constrains>(query: &Query<'_, F, C, B>, rows: &mut [LabelRow<C>]) -> Result<u16, LabelRefusal>
+pub fn count_offers<F: Floor, C: CostKind, B: Constrains>(
+    query: &Query<'_, F, C, B>,
+    rows: &mut [LabelRow<C>],
+) -> Result<u16, LabelRefusal>
     ensures counted { λ r. ⌜ r ≡ told (hindrance (asked (F·Floor .moves) (C·CostKind .kind) (B·Constrains .constraint) (now (query .entry))) (length (now (rows .entry)))) (length (offers-of (asked (F·Floor .moves) (C·CostKind .kind) (B·Constrains .constraint) (now (query .entry))))) ⌝ }
     ensures promise { λ r. ⌜ (Inside (asked (F·Floor .moves) (C·CostKind .kind) (B·Constrains .constraint) (now (query .entry)) .inst) → CountPromise (asked (F·Floor .moves) (C·CostKind .kind) (B·Constrains .constraint) (now (query .entry))) r) ⌝ }
 {
@@ -77,7 +90,14 @@ pub fn count_offers<F: Floor, C: CostKind, B: Constrains>(query: &Query<'_, F, C
 }
 
 // The same as `take_offer`, once the labels are in the rows.
-fn serve<F: Floor, C: CostKind, B: Constrains>(query: &Query<'_, F, C, B>, rows: &[LabelRow<C>], starts: &[u16], end: usize, number: u16, places: &mut [u8]) -> Option<C>
+fn serve<F: Floor, C: CostKind, B: Constrains>(
+    query: &Query<'_, F, C, B>,
+    rows: &[LabelRow<C>],
+    starts: &[u16],
+    end: usize,
+    number: u16,
+    places: &mut [u8],
+) -> Option<C>
     requires solved { ⌜ Solved (asked (F·Floor .moves) (C·CostKind .kind) (B·Constrains .constraint) (now query)) (now rows) (now starts) end ⌝ }
     requires table { ⌜ length (now starts) ≡ 8321 ⌝ }
     requires long { ⌜ length (now places) ≡ now query .horizon + 1 ⌝ }
@@ -94,7 +114,12 @@ fn serve<F: Floor, C: CostKind, B: Constrains>(query: &Query<'_, F, C, B>, rows:
 }
 
 // The cost of the offer with a number, whose walk is written into `places`; or none, where the cart has no such offer.
-pub fn take_offer<F: Floor, C: CostKind, B: Constrains>(query: &Query<'_, F, C, B>, number: u16, rows: &mut [LabelRow<C>], places: &mut [u8]) -> Result<Option<C>, LabelRefusal>
+pub fn take_offer<F: Floor, C: CostKind, B: Constrains>(
+    query: &Query<'_, F, C, B>,
+    number: u16,
+    rows: &mut [LabelRow<C>],
+    places: &mut [u8],
+) -> Result<Option<C>, LabelRefusal>
     ensures answer { λ r. ⌜ r ≡ cost-of (told (walk-hindrance (asked (F·Floor .moves) (C·CostKind .kind) (B·Constrains .constraint) (now (query .entry))) (length (now (rows .entry))) (length (now (places .entry)))) (nth (offers-of (asked (F·Floor .moves) (C·CostKind .kind) (B·Constrains .constraint) (now (query .entry)))) number)) ⌝ }
     ensures written { λ _. ⌜ now (places .exit) ≡ walk-of (told (walk-hindrance (asked (F·Floor .moves) (C·CostKind .kind) (B·Constrains .constraint) (now (query .entry))) (length (now (rows .entry))) (length (now (places .entry)))) (nth (offers-of (asked (F·Floor .moves) (C·CostKind .kind) (B·Constrains .constraint) (now (query .entry)))) number)) (now (places .entry)) ⌝ }
     ensures promise { λ r. ⌜ (Inside (asked (F·Floor .moves) (C·CostKind .kind) (B·Constrains .constraint) (now (query .entry)) .inst) → WalkPromise (asked (F·Floor .moves) (C·CostKind .kind) (B·Constrains .constraint) (now (query .entry))) number (now (places .exit)) r) ⌝ }

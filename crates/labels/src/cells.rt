@@ -23,7 +23,13 @@ use costs::CostKind;
 use floors::Floor;
 
 // The labels that come to the cell, as rows from its start on.
-fn fill_front<F: Floor, C: CostKind, B: Constrains>(query: &Query<'_, F, C, B>, index: &Index, cell: Cell, rows: &mut [LabelRow<C>], starts: &[u16]) -> Option<usize>
+fn fill_front<F: Floor, C: CostKind, B: Constrains>(
+    query: &Query<'_, F, C, B>,
+    index: &Index,
+    cell: Cell,
+    rows: &mut [LabelRow<C>],
+    starts: &[u16],
+) -> Option<usize>
     requires ready { ⌜ Ready (asked (F·Floor .moves) (C·CostKind .kind) (B·Constrains .constraint) (now query)) cell (now rows) (now starts) (cell .start) ⌝ }
     requires place { ⌜ cell .place < place-count (asked (F·Floor .moves) (C·CostKind .kind) (B·Constrains .constraint) (now query)) ⌝ }
     requires indexed { ⌜ Indexed (now index .begins) (now index .moves) (F·Floor .moves (now (now query .floor))) (cell .place) ⌝ }
@@ -53,7 +59,13 @@ fn push_row<C: CostKind>(rows: &mut [LabelRow<C>], n: usize, row: LabelRow<C>) -
 }
 
 // The cell of a place at tick 0: the cart's start, if it may be there.
-fn first_cell<F: Floor, C: CostKind, B: Constrains>(query: &Query<'_, F, C, B>, busy: bool, place: u8, rows: &mut [LabelRow<C>], n: usize) -> Option<usize>
+fn first_cell<F: Floor, C: CostKind, B: Constrains>(
+    query: &Query<'_, F, C, B>,
+    busy: bool,
+    place: u8,
+    rows: &mut [LabelRow<C>],
+    n: usize,
+) -> Option<usize>
     requires within { ⌜ n ≤ length (now rows) ⌝ }
     requires few { ⌜ length (now rows) ≤ 65535 ⌝ }
     requires known { ⌜ now query .cart < length (now (now query .carts)) ⌝ }
@@ -68,11 +80,27 @@ fn first_cell<F: Floor, C: CostKind, B: Constrains>(query: &Query<'_, F, C, B>, 
         return Some(n);
     }
     let cost = C::zero();
-    push_row(rows, n, LabelRow { cost, parent: u16::MAX, place })
+    push_row(
+        rows,
+        n,
+        LabelRow {
+            cost,
+            parent: u16::MAX,
+            place,
+        },
+    )
 }
 
 // The cell of a place at a tick after the first.
-fn later_cell<F: Floor, C: CostKind, B: Constrains>(query: &Query<'_, F, C, B>, index: &Index, layer: Layer, place: u8, rows: &mut [LabelRow<C>], starts: &[u16], n: usize) -> Option<usize>
+fn later_cell<F: Floor, C: CostKind, B: Constrains>(
+    query: &Query<'_, F, C, B>,
+    index: &Index,
+    layer: Layer,
+    place: u8,
+    rows: &mut [LabelRow<C>],
+    starts: &[u16],
+    n: usize,
+) -> Option<usize>
     requires later { ⌜ 0 < layer .tick ⌝ }
     requires few { ⌜ length (now rows) ≤ 65535 ⌝ }
     requires place { ⌜ place < place-count (asked (F·Floor .moves) (C·CostKind .kind) (B·Constrains .constraint) (now query)) ⌝ }
@@ -98,7 +126,15 @@ fn later_cell<F: Floor, C: CostKind, B: Constrains>(query: &Query<'_, F, C, B>, 
 }
 
 // The cell of a place, after those before it.
-pub fn fill_cell<F: Floor, C: CostKind, B: Constrains>(query: &Query<'_, F, C, B>, index: &Index, layer: Layer, place: u8, rows: &mut [LabelRow<C>], starts: &[u16], n: usize) -> Option<usize>
+pub fn fill_cell<F: Floor, C: CostKind, B: Constrains>(
+    query: &Query<'_, F, C, B>,
+    index: &Index,
+    layer: Layer,
+    place: u8,
+    rows: &mut [LabelRow<C>],
+    starts: &[u16],
+    n: usize,
+) -> Option<usize>
     requires few { ⌜ length (now rows) ≤ 65535 ⌝ }
     requires known { ⌜ now query .cart < length (now (now query .carts)) ⌝ }
     requires place { ⌜ place < place-count (asked (F·Floor .moves) (C·CostKind .kind) (B·Constrains .constraint) (now query)) ⌝ }

@@ -11,11 +11,54 @@ fn meets(constraint: Constraint, sought: Sought) -> bool
     ensures { λ r. ⌜ r ≡ seeks sought (constraint-of constraint) ⌝ }
 {
     match (sought, constraint) {
-        (Sought::Tick { cart, tick }, Constraint::Vertex { cart: c, place: _, tick: t }) => cart == c && tick == t,
-        (Sought::Tick { cart, tick }, Constraint::Edge { cart: c, from: _, to: _, tick: t }) => cart == c && tick == t,
-        (Sought::To { cart, to, tick }, Constraint::Edge { cart: c, from: _, to: v, tick: t }) => cart == c && to == v && tick == t,
-        (Sought::Place { cart, place, tick }, Constraint::Vertex { cart: c, place: p, tick: t }) => cart == c && place == p && tick == t,
-        (Sought::Crossing { cart, from, to, tick }, Constraint::Edge { cart: c, from: u, to: v, tick: t }) => cart == c && from == u && to == v && tick == t,
+        (
+            Sought::Tick { cart, tick },
+            Constraint::Vertex {
+                cart: c,
+                place: _,
+                tick: t,
+            },
+        ) => cart == c && tick == t,
+        (
+            Sought::Tick { cart, tick },
+            Constraint::Edge {
+                cart: c,
+                from: _,
+                to: _,
+                tick: t,
+            },
+        ) => cart == c && tick == t,
+        (
+            Sought::To { cart, to, tick },
+            Constraint::Edge {
+                cart: c,
+                from: _,
+                to: v,
+                tick: t,
+            },
+        ) => cart == c && to == v && tick == t,
+        (
+            Sought::Place { cart, place, tick },
+            Constraint::Vertex {
+                cart: c,
+                place: p,
+                tick: t,
+            },
+        ) => cart == c && place == p && tick == t,
+        (
+            Sought::Crossing {
+                cart,
+                from,
+                to,
+                tick,
+            },
+            Constraint::Edge {
+                cart: c,
+                from: u,
+                to: v,
+                tick: t,
+            },
+        ) => cart == c && from == u && to == v && tick == t,
         _ => false,
     }
 }

@@ -28,7 +28,15 @@ fn price_of<C: CostKind>(tariff: &[C], line: u16) -> C
 }
 
 // The best so far, once the labels at the place that a move leaves have gone by it to the cell.
-fn by_move<F: Floor, C: CostKind, B: Constrains>(query: &Query<'_, F, C, B>, cell: Cell, step: Inbound, rows: &[LabelRow<C>], starts: &[u16], end: usize, best: Option<LabelRow<C>>) -> Option<LabelRow<C>>
+fn by_move<F: Floor, C: CostKind, B: Constrains>(
+    query: &Query<'_, F, C, B>,
+    cell: Cell,
+    step: Inbound,
+    rows: &[LabelRow<C>],
+    starts: &[u16],
+    end: usize,
+    best: Option<LabelRow<C>>,
+) -> Option<LabelRow<C>>
     requires ready { ⌜ Ready (asked (F·Floor .moves) (C·CostKind .kind) (B·Constrains .constraint) (now query)) cell (now rows) (now starts) end ⌝ }
     requires inside { ⌜ step .from < place-count (asked (F·Floor .moves) (C·CostKind .kind) (B·Constrains .constraint) (now query)) ⌝ }
     ensures { λ r. ⌜ Selects (C·CostKind .kind) (now (rows .entry)) cell end best (by-one (asked (F·Floor .moves) (C·CostKind .kind) (B·Constrains .constraint) (now (query .entry))) cell step) r ⌝ }
@@ -37,11 +45,27 @@ fn by_move<F: Floor, C: CostKind, B: Constrains>(query: &Query<'_, F, C, B>, cel
         return best;
     }
     let at = cell.base + step.from as usize;
-    along(rows, starts[at] as usize, starts[at + 1] as usize, cell.start, end, price_of(query.tariff, step.line), cell.place, best)
+    along(
+        rows,
+        starts[at] as usize,
+        starts[at + 1] as usize,
+        cell.start,
+        end,
+        price_of(query.tariff, step.line),
+        cell.place,
+        best,
+    )
 }
 
 // The next label of the cell, whose rows so far are those up to `end`.
-pub fn next_label<F: Floor, C: CostKind, B: Constrains>(query: &Query<'_, F, C, B>, index: &Index, cell: Cell, rows: &[LabelRow<C>], starts: &[u16], end: usize) -> Option<LabelRow<C>>
+pub fn next_label<F: Floor, C: CostKind, B: Constrains>(
+    query: &Query<'_, F, C, B>,
+    index: &Index,
+    cell: Cell,
+    rows: &[LabelRow<C>],
+    starts: &[u16],
+    end: usize,
+) -> Option<LabelRow<C>>
     requires ready { ⌜ Ready (asked (F·Floor .moves) (C·CostKind .kind) (B·Constrains .constraint) (now query)) cell (now rows) (now starts) end ⌝ }
     requires place { ⌜ cell .place < place-count (asked (F·Floor .moves) (C·CostKind .kind) (B·Constrains .constraint) (now query)) ⌝ }
     requires indexed { ⌜ Indexed (now index .begins) (now index .moves) (F·Floor .moves (now (now query .floor))) (cell .place) ⌝ }

@@ -44,7 +44,13 @@ fn dominates<C: CostKind>(rows: &[LabelRow<C>], from: usize, to: usize, c: C) ->
 }
 
 // Whether some label that arrives dominates `c`.
-fn is_dominated<C: CostKind>(rows: &[LabelRow<C>], starts: &[u16], landing: Landing, end: usize, c: C) -> bool
+fn is_dominated<C: CostKind>(
+    rows: &[LabelRow<C>],
+    starts: &[u16],
+    landing: Landing,
+    end: usize,
+    c: C,
+) -> bool
     requires { ⌜ Lands (now rows) (now starts) landing end ⌝ }
     ensures { λ r. ⌜ r ≡ dominated (C·CostKind .kind) (landed (now (starts .entry)) landing (shown (take end (now (rows .entry))))) c ⌝ }
 {
@@ -68,7 +74,14 @@ fn is_after<C: CostKind>(last: Option<C>, c: C) -> bool
 }
 
 // Whether `c` may be the next offer's cost: it comes after the last one's, and nothing dominates it.
-fn is_due<C: CostKind>(rows: &[LabelRow<C>], starts: &[u16], landing: Landing, end: usize, last: Option<C>, c: C) -> bool
+fn is_due<C: CostKind>(
+    rows: &[LabelRow<C>],
+    starts: &[u16],
+    landing: Landing,
+    end: usize,
+    last: Option<C>,
+    c: C,
+) -> bool
     requires { ⌜ Lands (now rows) (now starts) landing end ⌝ }
     ensures { λ r. ⌜ r ≡ not (out-of-turn (C·CostKind .kind) last (landed (now (starts .entry)) landing (shown (take end (now (rows .entry))))) c) ⌝ }
 {
@@ -86,7 +99,15 @@ fn goes_before<C: CostKind>(best: Option<Offer<C>>, c: C) -> bool
 }
 
 // Whether `c` is a better next offer's cost than the best so far.
-fn is_better<C: CostKind>(rows: &[LabelRow<C>], starts: &[u16], landing: Landing, end: usize, last: Option<C>, best: Option<Offer<C>>, c: C) -> bool
+fn is_better<C: CostKind>(
+    rows: &[LabelRow<C>],
+    starts: &[u16],
+    landing: Landing,
+    end: usize,
+    last: Option<C>,
+    best: Option<Offer<C>>,
+    c: C,
+) -> bool
     requires { ⌜ Lands (now rows) (now starts) landing end ⌝ }
     ensures { λ r. ⌜ r ≡ (goes-first (C·CostKind .kind) best c && not (out-of-turn (C·CostKind .kind) last (landed (now (starts .entry)) landing (shown (take end (now (rows .entry))))) c)) ⌝ }
 {
@@ -94,7 +115,15 @@ fn is_better<C: CostKind>(rows: &[LabelRow<C>], starts: &[u16], landing: Landing
 }
 
 // The best so far, once the labels that arrive at a tick have come.
-fn by_tick<C: CostKind>(rows: &[LabelRow<C>], starts: &[u16], landing: Landing, end: usize, tick: u8, last: Option<C>, best: Option<Offer<C>>) -> Option<Offer<C>>
+fn by_tick<C: CostKind>(
+    rows: &[LabelRow<C>],
+    starts: &[u16],
+    landing: Landing,
+    end: usize,
+    tick: u8,
+    last: Option<C>,
+    best: Option<Offer<C>>,
+) -> Option<Offer<C>>
     requires lands { ⌜ Lands (now rows) (now starts) landing end ⌝ }
     requires tick { ⌜ tick ≤ landing .horizon ⌝ }
     requires timely { ⌜ Timely landing best ⌝ }
@@ -117,7 +146,13 @@ fn by_tick<C: CostKind>(rows: &[LabelRow<C>], starts: &[u16], landing: Landing, 
 }
 
 // The next offer after the one of the cost `last`, or the first.
-fn next_offer<C: CostKind>(rows: &[LabelRow<C>], starts: &[u16], landing: Landing, end: usize, last: Option<C>) -> Option<Offer<C>>
+fn next_offer<C: CostKind>(
+    rows: &[LabelRow<C>],
+    starts: &[u16],
+    landing: Landing,
+    end: usize,
+    last: Option<C>,
+) -> Option<Offer<C>>
     requires { ⌜ Lands (now rows) (now starts) landing end ⌝ }
     ensures chosen { λ r. ⌜ Chooses (C·CostKind .kind) (now (rows .entry)) (now (starts .entry)) landing end last None (landed (now (starts .entry)) landing (shown (take end (now (rows .entry))))) r ⌝ }
     ensures timely { λ r. ⌜ Timely landing r ⌝ }
@@ -130,7 +165,13 @@ fn next_offer<C: CostKind>(rows: &[LabelRow<C>], starts: &[u16], landing: Landin
 }
 
 // The offer with a number, if there are so many.
-pub fn find_offer<C: CostKind>(rows: &[LabelRow<C>], starts: &[u16], landing: Landing, end: usize, number: u16) -> Option<Offer<C>>
+pub fn find_offer<C: CostKind>(
+    rows: &[LabelRow<C>],
+    starts: &[u16],
+    landing: Landing,
+    end: usize,
+    number: u16,
+) -> Option<Offer<C>>
     requires { ⌜ Lands (now rows) (now starts) landing end ⌝ }
     ensures found { λ r. ⌜ shown-lead landing (shown (take end (now (rows .entry)))) r ≡ nth (front-of (C·CostKind .kind) (landed (now (starts .entry)) landing (shown (take end (now (rows .entry)))))) number ⌝ }
     ensures timely { λ r. ⌜ Timely landing r ⌝ }
@@ -148,7 +189,12 @@ pub fn find_offer<C: CostKind>(rows: &[LabelRow<C>], starts: &[u16], landing: La
 }
 
 // How many offers there are.
-pub fn count_all<C: CostKind>(rows: &[LabelRow<C>], starts: &[u16], landing: Landing, end: usize) -> usize
+pub fn count_all<C: CostKind>(
+    rows: &[LabelRow<C>],
+    starts: &[u16],
+    landing: Landing,
+    end: usize,
+) -> usize
     requires { ⌜ Lands (now rows) (now starts) landing end ⌝ }
     ensures { λ r. ⌜ r ≡ length (front-of (C·CostKind .kind) (landed (now (starts .entry)) landing (shown (take end (now (rows .entry)))))) ⌝ }
 {

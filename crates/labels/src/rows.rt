@@ -33,7 +33,13 @@ fn comes_first<C: CostKind>(best: Option<LabelRow<C>>, c: C) -> bool
 }
 
 // Whether a label of the cost `c` is better than the best so far: it comes before it, and no row of the cell covers it.
-fn improves<C: CostKind>(rows: &[LabelRow<C>], start: usize, end: usize, best: Option<LabelRow<C>>, c: C) -> bool
+fn improves<C: CostKind>(
+    rows: &[LabelRow<C>],
+    start: usize,
+    end: usize,
+    best: Option<LabelRow<C>>,
+    c: C,
+) -> bool
     requires cell { ⌜ start ≤ end ⌝ }
     requires within { ⌜ end ≤ length (now rows) ⌝ }
     ensures { λ r. ⌜ r ≡ (leads (C·CostKind .kind) best c && not (covered (C·CostKind .kind) (drop start (shown (take end (now (rows .entry))))) c)) ⌝ }
@@ -43,7 +49,16 @@ fn improves<C: CostKind>(rows: &[LabelRow<C>], start: usize, end: usize, best: O
 
 // The best so far, once the rows from `from` to `to` have gone on to `place` for `price`.
 // The cell that is being filled has the rows from `start` to `end`, which are the last.
-pub fn along<C: CostKind>(rows: &[LabelRow<C>], from: usize, to: usize, start: usize, end: usize, price: C, place: u8, best: Option<LabelRow<C>>) -> Option<LabelRow<C>>
+pub fn along<C: CostKind>(
+    rows: &[LabelRow<C>],
+    from: usize,
+    to: usize,
+    start: usize,
+    end: usize,
+    price: C,
+    place: u8,
+    best: Option<LabelRow<C>>,
+) -> Option<LabelRow<C>>
     requires run { ⌜ from ≤ to ⌝ }
     requires before { ⌜ to ≤ end ⌝ }
     requires cell { ⌜ start ≤ end ⌝ }

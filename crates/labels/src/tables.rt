@@ -16,7 +16,14 @@ use costs::CostKind;
 use floors::Floor;
 
 // The labels of a tick, after those of the ticks before it.
-fn fill_tick<F: Floor, C: CostKind, B: Constrains>(query: &Query<'_, F, C, B>, index: &Index, layer: Layer, rows: &mut [LabelRow<C>], starts: &mut [u16], n: usize) -> Option<usize>
+fn fill_tick<F: Floor, C: CostKind, B: Constrains>(
+    query: &Query<'_, F, C, B>,
+    index: &Index,
+    layer: Layer,
+    rows: &mut [LabelRow<C>],
+    starts: &mut [u16],
+    n: usize,
+) -> Option<usize>
     requires few { ⌜ length (now rows) ≤ 65535 ⌝ }
     requires known { ⌜ now query .cart < length (now (now query .carts)) ⌝ }
     requires indexed { ⌜ AllIndexed (now index .begins) (now index .moves) (F·Floor .moves (now (now query .floor))) ⌝ }
@@ -37,7 +44,11 @@ fn fill_tick<F: Floor, C: CostKind, B: Constrains>(query: &Query<'_, F, C, B>, i
 }
 
 // The labels of the cart, tick by tick and place by place, if there is room for all of them.
-pub fn fill_labels<F: Floor, C: CostKind, B: Constrains>(query: &Query<'_, F, C, B>, rows: &mut [LabelRow<C>], starts: &mut [u16]) -> Option<usize>
+pub fn fill_labels<F: Floor, C: CostKind, B: Constrains>(
+    query: &Query<'_, F, C, B>,
+    rows: &mut [LabelRow<C>],
+    starts: &mut [u16],
+) -> Option<usize>
     requires few { ⌜ length (now rows) ≤ 65535 ⌝ }
     requires known { ⌜ now query .cart < length (now (now query .carts)) ⌝ }
     requires ticks { ⌜ now query .horizon ≤ 64 ⌝ }

@@ -24,7 +24,12 @@ fn write_trace<C: CostKind>(rows: &[LabelRow<C>], label: usize, places: &mut [u8
 }
 
 // The places of an offer's walk, from tick 0 to the horizon.
-pub fn write_walk<C: CostKind>(rows: &[LabelRow<C>], landing: Landing, offer: Offer<C>, places: &mut [u8])
+pub fn write_walk<C: CostKind>(
+    rows: &[LabelRow<C>],
+    landing: Landing,
+    offer: Offer<C>,
+    places: &mut [u8],
+)
     requires long { ⌜ length (now places) ≡ landing .horizon + 1 ⌝ }
     requires timely { ⌜ offer .tick ≤ landing .horizon ⌝ }
     requires trace { ⌜ length (trace-at (shown (now rows)) (offer .label)) ≡ offer .tick + 1 ⌝ }

@@ -18,7 +18,8 @@ next-label-requires g c κs =
     record {
       ready = filling-ready a cell (c .args .rows .now) (c .loop-row .rows) (c .args .starts .now) (c .loop-row .end) (front-of k (reaching a (cell .tick) (cell .place))) (c .loop-row .kept .rows) (c .pre .ready) (c .loop-row .inv);
       place = c .pre .place;
-      indexed = c .pre .indexed }
+      indexed = c .pre .indexed;
+    }
 
 pub returns-then-end-rows : need.returns-then-end-rows
 returns-then-end-rows g c =

@@ -33,9 +33,11 @@ fill-front-requires g c κs =
         few = c .pre .few;
         table = table-before a (layer .tick) t′ (layer .base) (layer .before) (length (c .args .starts .now)) s (laid .base) (laid .before t′ s) (c .pre .table);
         runs = runs-before a (layer .tick) t′ (layer .before) (c .args .rows .now) (c .args .starts .now) (take (c .args .place) (row-of a (layer .tick))) (c .args .n) s (laid .before t′ s) (c .pre .held);
-        barred = c .is-barred-barred .ensures };
+        barred = c .is-barred-barred .ensures;
+      };
       place = c .pre .place;
-      indexed = c .pre .indexed (c .args .place) (c .pre .place) }
+      indexed = c .pre .indexed (c .args .place) (c .pre .place);
+    }
 
 pub returns : need.returns
 returns g c =

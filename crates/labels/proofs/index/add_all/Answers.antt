@@ -30,12 +30,13 @@ loop-from-again g c =
     let u = c .loop-from .from in
     let lt : u < length moves = omega (arith, c .places-from-end .ensures, c .loop-from-test .taken) in
     let rest = inbound-from moves p (u + 1) in
-    let now-has = c .add-from-n .ensures .1 in
-    (c .add-from-n .ensures .0,
+    let now-has = c .add-from-n .ensures .1 in (
+      c .add-from-n .ensures .0,
       ap (λ l. l ++ rest) now-has
-      ∙ append-assoc (take (c .loop-from .n) (c .loop-from .moves)) (into p u (getD moves u [])) rest
-      ∙ ap (λ l. take (c .loop-from .n) (c .loop-from .moves) ++ l) (sym (inbound-at moves p u lt))
-      ∙ c .loop-from .inv .1)
+          ∙ append-assoc (take (c .loop-from .n) (c .loop-from .moves)) (into p u (getD moves u [])) rest
+          ∙ ap (λ l. take (c .loop-from .n) (c .loop-from .moves) ++ l) (sym (inbound-at moves p u lt))
+          ∙ c .loop-from .inv .1,
+    )
 
 pub returns : need.returns
 returns g c =

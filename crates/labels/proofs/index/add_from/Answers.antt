@@ -29,13 +29,13 @@ loop-k-again g c =
     let was = take (c .args .n) (c .args .moves .now) in
     let few : length (was ++ into (c .args .to) (c .args .from) ms) ≤ length (c .loop-k .moves) = omega (arith, length-append was (into (c .args .to) (c .args .from) ms), length-take-le (c .args .n) (c .args .moves .now) (omega (arith, c .pre)), c .pre, c .loop-k .kept .moves) in
     elim (c .if-step-to .came) [
-      then-step-to w ↦
-        let here = into-yes (c .args .to) (c .args .from) ms (c .loop-k .k) _ (sym (c .in-Some .ensures tt)) (w .if-step-to .taken) in
-        let more = append-more (c .loop-k .moves) _ (c .loop-k .n) _ _ (ap (λ l. take (c .loop-k .n) (c .loop-k .moves) ++ l) (sym here) ∙ c .loop-k .inv .1) (c .loop-k .inv .0) few in
-        rw (w .moves-is, w .n-is) more
-    | else-step-to w ↦
-        let here = into-no (c .args .to) (c .args .from) ms (c .loop-k .k) _ (sym (c .in-Some .ensures tt)) (w .if-step-to .left) in
-        rw (w .moves-is, w .n-is) (c .loop-k .inv .0, ap (λ l. take (c .loop-k .n) (c .loop-k .moves) ++ l) (sym here) ∙ c .loop-k .inv .1)
+      | then-step-to w ↦
+          let here = into-yes (c .args .to) (c .args .from) ms (c .loop-k .k) _ (sym (c .in-Some .ensures tt)) (w .if-step-to .taken) in
+          let more = append-more (c .loop-k .moves) _ (c .loop-k .n) _ _ (ap (λ l. take (c .loop-k .n) (c .loop-k .moves) ++ l) (sym here) ∙ c .loop-k .inv .1) (c .loop-k .inv .0) few in
+          rw (w .moves-is, w .n-is) more
+      | else-step-to w ↦
+          let here = into-no (c .args .to) (c .args .from) ms (c .loop-k .k) _ (sym (c .in-Some .ensures tt)) (w .if-step-to .left) in
+          rw (w .moves-is, w .n-is) (c .loop-k .inv .0, ap (λ l. take (c .loop-k .n) (c .loop-k .moves) ++ l) (sym here) ∙ c .loop-k .inv .1)
     ]
 
 pub returns : need.returns

@@ -10,4 +10,5 @@ returns g c =
       first = c .stands-from .ensures;
       horizon = refl;
       goal = sym (goal-at (c .args .query .now .carts .now) (a .cart) (record { start = 0; goal = 0 }) (c .pre));
-      places = c .places .ensures }
+      places = c .places .ensures;
+    }

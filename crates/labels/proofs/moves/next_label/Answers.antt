@@ -27,7 +27,8 @@ by-move-best-requires g c κs =
     let index = c .args .index .now in
     record {
       ready = c .pre .ready;
-      inside = part-has (λ m. m .from < length moves) (index .begins) (index .moves) p (inbound-of moves p) (c .pre .indexed) (inbound-inside moves p) (c .loop-e .e) (record { from = 0; line = 0 }) (c .loop-e .kept .e) (c .loop-e-test .taken) }
+      inside = part-has (λ m. m .from < length moves) (index .begins) (index .moves) p (inbound-of moves p) (c .pre .indexed) (inbound-inside moves p) (c .loop-e .e) (record { from = 0; line = 0 }) (c .loop-e .kept .e) (c .loop-e-test .taken);
+    }
 
 pub loop-e-again : need.loop-e-again
 loop-e-again g c =

@@ -48,12 +48,12 @@ loop-i-again g c =
     let x : Offer (g .C .Denot) = record { cost = getD rows (c .loop-i .i) (c .index-rows-i .result) .cost; label = c .loop-i .i; tick = c .args .tick } in
     let step = standing-at k skip l rows (c .args .end) to (c .loop-i .i) (c .index-rows-i .result) (c .args .tick) (shown-lead l ls o) (c .loop-i-test .taken) held (c .pre .lands .within) in
     let by : better k skip (shown-lead l ls o) (shown-offer l ls x) ≡ shown-lead l ls (c .if-is-better .best) = elim (c .if-is-better .came) [
-      then-is-better w ↦ lead-became k skip l ls o _ x true (w .if-is-better .ensures tt) (w .best-is)
-    | else-is-better w ↦ lead-became k skip l ls o _ x false (w .if-is-better .ensures tt) (w .best-is)
+      | then-is-better w ↦ lead-became k skip l ls o _ x true (w .if-is-better .ensures tt) (w .best-is)
+      | else-is-better w ↦ lead-became k skip l ls o _ x false (w .if-is-better .ensures tt) (w .best-is)
     ] in
     let timely : Timely l (c .if-is-better .best) = elim (c .if-is-better .came) [
-      then-is-better w ↦ subst (Timely l) (sym (w .best-is)) (c .pre .tick)
-    | else-is-better w ↦ subst (Timely l) (sym (w .best-is)) (c .loop-i .inv .1)
+      | then-is-better w ↦ subst (Timely l) (sym (w .best-is)) (c .pre .tick)
+      | else-is-better w ↦ subst (Timely l) (sym (w .best-is)) (c .loop-i .inv .1)
     ] in
     (sym (step ∙ ap (λ p. picked k skip p (standing (l .horizon - c .args .tick) (l .goal) (drop (c .loop-i .i + 1) (take to ls)))) by) ∙ c .loop-i .inv .0, timely)
 
@@ -70,4 +70,5 @@ returns g c =
     let chosen = sym (standing-end k skip l ls to (c .loop-i .i) (c .args .tick) (shown-lead l ls (c .loop-i .best)) (c .loop-i-test .left) fits) ∙ c .loop-i .inv .0 in
     record {
       chosen = chosen ∙ ap (λ (x : ℕ × ℕ). picked k skip (shown-lead l ls (c .args .best)) (standing (l .horizon - c .args .tick) (l .goal) (drop (x .0) (take (x .1) ls)))) (c .run-at-from .ensures);
-      timely = c .loop-i .inv .1 }
+      timely = c .loop-i .inv .1;
+    }

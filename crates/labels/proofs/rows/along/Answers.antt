@@ -22,8 +22,8 @@ loop-i-again g c =
     let o = c .loop-i .best in
     let r : LabelRow (g .C .Denot) = record { cost = k .join (getD (c .args .rows .now) (c .loop-i .i) (c .index-rows-i .result) .cost) (c .args .price); parent = c .loop-i .i; place = c .args .place } in
     let by : better k (covered k es) (shown-best ls o) (shown-row ls r) ≡ shown-best ls (c .if-improves .best) = elim (c .if-improves .came) [
-      then-improves w ↦ better-became k ls es o _ _ _ _ _ true (c .join-cost .ensures) (w .if-improves .ensures tt) (w .best-is)
-    | else-improves w ↦ better-became k ls es o _ _ _ _ _ false (c .join-cost .ensures) (w .if-improves .ensures tt) (w .best-is)
+      | then-improves w ↦ better-became k ls es o _ _ _ _ _ true (c .join-cost .ensures) (w .if-improves .ensures tt) (w .best-is)
+      | else-improves w ↦ better-became k ls es o _ _ _ _ _ false (c .join-cost .ensures) (w .if-improves .ensures tt) (w .best-is)
     ] in
     sym (step ∙ ap (λ p. picked k (covered k es) p (extended-by k (c .args .price) (c .args .place) (drop (c .loop-i .i + 1) (take (c .args .to) ls)))) by) ∙ c .loop-i .inv
 

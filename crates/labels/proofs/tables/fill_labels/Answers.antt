@@ -25,7 +25,8 @@ fill-tick-requires g c κs =
       indexed = c .index-of-index .ensures;
       laid = inv .1;
       table = omega (arith, room, c .loop-tick .kept .starts, length-set (c .args .starts .now) 0 0, c .pre .table);
-      held = inv .2 }
+      held = inv .2;
+    }
 
 pub returns-in-rest : need.returns-in-rest
 returns-in-rest g c =
@@ -37,10 +38,11 @@ pub loop-tick-again : need.loop-tick-again
 loop-tick-again g c =
     let a = asked (g .F·Floor .moves) (g .C·CostKind .kind) (g .B·Constrains .constraint) (c .args .query .now) in
     let inv = c .loop-tick .inv in
-    let on : suc (c .loop-tick .layer .tick) ≡ c .loop-tick .tick + 1 = omega (arith, inv .0) in
-    (refl,
+    let on : suc (c .loop-tick .layer .tick) ≡ c .loop-tick .tick + 1 = omega (arith, inv .0) in (
+      refl,
       laid-next a (c .loop-tick .layer) _ (c .places-places .result) (c .places-places .ensures) (inv .1) (ap (λ x. x + 1) (sym (inv .0))) refl refl (c .is-busy-in-loop-tick .ensures) refl,
-      subst (λ x. Hold (c .fill-tick .last .rows) (c .fill-tick .last .starts) (cells-before a x) (c .in-Some .more)) on (c .in-Some .ensures tt))
+      subst (λ x. Hold (c .fill-tick .last .rows) (c .fill-tick .last .starts) (cells-before a x) (c .in-Some .more)) on (c .in-Some .ensures tt),
+    )
 
 pub returns : need.returns
 returns g c =

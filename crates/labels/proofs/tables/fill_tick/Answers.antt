@@ -21,7 +21,8 @@ fill-cell-requires g c κs =
       indexed = c .pre .indexed;
       laid = c .pre .laid;
       table = omega (arith, c .loop-place .kept .starts, c .pre .table);
-      held = c .loop-place .inv }
+      held = c .loop-place .inv;
+    }
 
 pub returns-in-rest : need.returns-in-rest
 returns-in-rest g c =

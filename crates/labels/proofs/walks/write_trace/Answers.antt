@@ -11,11 +11,12 @@ use Rattle.labels.proofs.walks.write_trace.Needs as need
 pub loop-left-holds : need.loop-left-holds
 loop-left-holds g c =
     let us = trace-at (shown (c .args .rows .now)) (c .args .label) in
-    let none : length us - length (c .args .places .now) ≡ 0 = omega (arith, c .pre) in
-    (omega (arith, c .pre),
+    let none : length us - length (c .args .places .now) ≡ 0 = omega (arith, c .pre) in (
+      omega (arith, c .pre),
       drop-all (length (c .args .places .now)) (c .args .places .now) (omega arith) ∙ ap (λ n. reverse (take n us)) (sym none),
       λ _. ap (λ n. drop n us) (sym none),
-      λ some. row-inside us (length (c .args .places .now)) some (omega (arith, c .pre)) (c .args .rows .now) (c .args .label) (ap (λ n. drop n us) (sym none)))
+      λ some. row-inside us (length (c .args .places .now)) some (omega (arith, c .pre)) (c .args .rows .now) (c .args .label) (ap (λ n. drop n us) (sym none)),
+    )
 
 pub loop-left-again : need.loop-left-again
 loop-left-again g c =
@@ -29,11 +30,12 @@ loop-left-again g c =
     let rest = drop (length us - (left - 1)) us in
     let place = trace-place rows (c .loop-left .row) (getD us (length us - left) 0) rest d here in
     let long : length (c .loop-left .places) ≡ length us = c .loop-left .kept .places ∙ sym (c .pre) in
-    let parent = λ (more : 0 < left - 1). trace-parent rows (c .loop-left .row) (getD us (length us - left) 0) rest (c .index-rows-row-in-loop-left .result) here (omega (arith, length-drop (length us - (left - 1)) us)) in
-    (omega (arith, le),
+    let parent = λ (more : 0 < left - 1). trace-parent rows (c .loop-left .row) (getD us (length us - left) 0) rest (c .index-rows-row-in-loop-left .result) here (omega (arith, length-drop (length us - (left - 1)) us)) in (
+      omega (arith, le),
       written-more us left some le (c .loop-left .places) _ long place (c .loop-left .inv .1),
       parent,
-      λ more. row-inside us (left - 1) more (omega (arith, le)) rows _ (parent more))
+      λ more. row-inside us (left - 1) more (omega (arith, le)) rows _ (parent more),
+    )
 
 pub returns : need.returns
 returns g c =
