@@ -6,6 +6,7 @@ use crate::timing::best_time;
 use crate::worded::Worded;
 use crate::words::Words;
 use carts::ByItself;
+use costs::CostKind;
 use floors::Floor;
 use floors::GridFloor;
 use floors::GridFloorFloor;
@@ -13,9 +14,19 @@ use floors::LaneFloor;
 use floors::LaneFloorFloor;
 use labels::LabelRow;
 use labels::Query;
+use std::alloc::AllocError;
+use std::alloc::Global;
 use std::error::AnyError;
 
 const ROWS: usize = 65535;
+
+fn make_rows<C: CostKind>(heap: Global) -> Result<Vec<LabelRow<C>>, AllocError> {
+    let mut rows = Vec::with_capacity(heap, ROWS)?;
+    for _ in 0..ROWS {
+        rows.push(LabelRow { cost: C::zero(), parent: 0, place: 0 })?;
+    }
+    Ok(rows)
+}
 
 // Runs the rest of a case on its floor.
 fn run_on<F: Floor, C: Worded>(rt: &LibcRuntime, floor: &F, repeats: u16, words: &mut Words<'_>) -> Result<(), AnyError> {
@@ -28,8 +39,7 @@ fn run_on<F: Floor, C: Worded>(rt: &LibcRuntime, floor: &F, repeats: u16, words:
         constraints: case.constraints.as_slice(),
         cart: 0,
     };
-    let row = LabelRow { cost: C::zero(), parent: 0, place: 0 };
-    let mut rows = vec![in rt.alloc(); row; ROWS]?;
+    let mut rows = make_rows::<C>(rt.alloc())?;
     let best = best_time(rt, &query, rows.as_mut_slice(), repeats)?;
     eprintln!(rt, "best of {repeats}, in nanoseconds: {best}")?;
     print_answer(rt, &query, rows.as_mut_slice())

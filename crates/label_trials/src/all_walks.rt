@@ -12,6 +12,9 @@ use std::alloc::Global;
 // No place of a trial has more moves.
 const MOST_MOVES: u16 = 5;
 
+// How many sequences of move numbers there are for each number of moves.
+const SEQUENCES: [u16; 5] = [1, 5, 25, 125, 625];
+
 // The numbers of moves that a number stands for, as its digits.
 fn digits(code: u16) -> [u8; 4] {
     let mut digits = [0u8; 4];
@@ -38,12 +41,10 @@ fn add_beginnings<F: Floor, C: CostKind>(query: &Query<'_, F, C, Constraint>, st
 // Every beginning that keeps the constraints, up to the horizon.
 pub fn all_beginnings<F: Floor, C: CostKind>(heap: Global, query: &Query<'_, F, C, Constraint>, start: u8) -> Result<Vec<Beginning<C>>, AllocError> {
     let mut found = Vec::new(heap);
-    let mut count = 0u8;
-    for sequences in [1u16, 5, 25, 125, 625] {
+    for count in 0..MOST_TICKS as u8 + 1 {
         if count <= query.horizon {
-            add_beginnings(query, start, count, sequences, &mut found)?;
+            add_beginnings(query, start, count, SEQUENCES[count as usize], &mut found)?;
         }
-        count += 1;
     }
     Ok(found)
 }

@@ -4,17 +4,27 @@ use crate::floors_made::make_lanes;
 use crate::generated::Generated;
 use crate::numbers::Numbers;
 use crate::trial::make_trial;
+use costs::CostKind;
 use floors::Floor;
 use floors::GridFloorFloor;
 use floors::LaneFloorFloor;
 use labels::LabelRow;
 use labels::Query;
+use std::alloc::AllocError;
 use std::alloc::Global;
 use std::error::AnyError;
 
 const TRIALS: u16 = 500;
 
 const ROWS: usize = 4096;
+
+fn make_rows<C: CostKind>(heap: Global) -> Result<Vec<LabelRow<C>>, AllocError> {
+    let mut rows = Vec::with_capacity(heap, ROWS)?;
+    for _ in 0..ROWS {
+        rows.push(LabelRow { cost: C::zero(), parent: 0, place: 0 })?;
+    }
+    Ok(rows)
+}
 
 // One trial on a floor, with at most so many constraints.
 fn run_trial<F: Floor, C: Generated>(heap: Global, numbers: &mut Numbers, floor: &F, most: u8, rows: &mut [LabelRow<C>]) -> Result<bool, AnyError> {
@@ -46,8 +56,7 @@ fn run_numbered<C: Generated>(heap: Global, numbers: &mut Numbers, number: u16, 
 pub fn run_setting<C: Generated>(rt: &LibcRuntime, name: &str, most: u8) -> Result<u16, AnyError> {
     let heap = rt.alloc();
     let mut numbers = Numbers::new(1);
-    let row = LabelRow { cost: C::zero(), parent: 0, place: 0 };
-    let mut rows = vec![in heap; row; ROWS]?;
+    let mut rows = make_rows::<C>(heap)?;
     let mut agreed = 0u16;
     for number in 0..TRIALS {
         if run_numbered::<C>(heap, &mut numbers, number, most, rows.as_mut_slice())? {
