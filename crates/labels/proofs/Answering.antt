@@ -3,19 +3,18 @@
 use mathlib.Core.Path.{_≡_, refl, sym, ap, subst, _∙_}
 use mathlib.Core.Bool.{Bool, true, false, cond}
 use mathlib.Core.List.{List, [], _∷_, map}
-use mathlib.Core.Logic.{inl, inr}
 use Prim.Native.Nat.{ℕ, zero, suc, _+_, _-_, _<_, _≤_}
 use native.Mathlib.Omega.{arith}
 use lib.Dec.{eqb, ltb, leb}
-use lib.ListN.{length, getD, take, replicate}
+use lib.ListN.{length, take, replicate}
 use Rattle.std.specs.declared.option.Option.{Option}
 use Rattle.std.specs.declared.option.Option.the-variants.{Some, None}
 use Rattle.std.specs.declared.result.Result.the-variants.{Ok}
-use Rattle.std.specs.Options.{orOther, mapped}
+use Rattle.std.specs.Options.{mapped}
 use Rattle.std.specs.shelf.Lists.{All}
 use Rattle.std.specs.shelf.Maps.{nth}
 use Rattle.std.proofs.shelf.Lists.{length-append, length-map, length-replicate, length-reverse}
-use Rattle.std.proofs.shelf.Tests.{cases-bool, ltb-false, leb-false, leb-true, le-leb, lt-leb, eq-eqb, cond-true, cond-false}
+use Rattle.std.proofs.shelf.Tests.{ltb-false, leb-false, eq-eqb, cond-true}
 use Rattle.floors.specs.Floors.{FloorBounds}
 use Rattle.rules.specs.Kinds.{Laws}
 use Rattle.rules.specs.Fronts.{Front, front-of}
@@ -26,11 +25,11 @@ use Rattle.labels.specs.declared.landing.Landing.{Landing}
 use Rattle.labels.specs.declared.landing.Offer.{Offer}
 use Rattle.labels.specs.declared.row.LabelRow.{LabelRow}
 use Rattle.labels.specs.declared.refusal.LabelRefusal.{LabelRefusal}
-use Rattle.labels.specs.declared.refusal.LabelRefusal.the-variants.{WrongLength, HorizonTooLong, TooManyRows, NoSuchCart, StartOffFloor, GoalOffFloor, NoRowLeft}
+use Rattle.labels.specs.declared.refusal.LabelRefusal.the-variants.{WrongLength, HorizonTooLong, TooManyRows, NoSuchCart, StartOffFloor, GoalOffFloor}
 use Rattle.labels.specs.Answers.{refusal, hindrance, walk-hindrance, Solved, Inside, PermittedCost, CountPromise, Written, WalkPromise, walked}
 use Rattle.labels.specs.Arrivals.{LandingOf}
 use Rattle.labels.specs.Landings.{Lands, landed, shown-offer}
-use Rattle.labels.specs.Queries.{Asked, place-count, label-total, offers-of}
+use Rattle.labels.specs.Queries.{Asked, place-count, offers-of}
 use Rattle.labels.specs.Rows.{shown, trace-at}
 use Rattle.labels.proofs.Arriving.{lands, landed-is, offers-few}
 
@@ -64,16 +63,6 @@ module _ {C : Type 0} (a : Asked C) (rows : ℕ) where
   admitted none =
       let f = passes _ _ _ _ _ none in
       record { ticks = ltb-false 64 (a .inst .horizon) (f .0); few = ltb-false 65535 rows (f .1); known = leb-false (cart-count (a .inst)) (a .cart) (f .2); inside = leb-false (place-count a) (goal-of (a .inst) (a .cart)) (f .4) }
-
-  -- a refusal; too many labels; and neither
-  pub hindered-refused : (e : LabelRefusal) → Some e ≡ refusal a rows → hindrance a rows ≡ Some e
-  hindered-refused e h = ap (λ o. orOther o (cond (leb (label-total a) rows) None (Some NoRowLeft))) (sym h)
-
-  pub hindered-full : None ≡ refusal a rows → rows < label-total a → hindrance a rows ≡ Some NoRowLeft
-  hindered-full h lt = ap (λ o. orOther o (cond (leb (label-total a) rows) None (Some NoRowLeft))) (sym h) ∙ cond-false (leb (label-total a) rows) None (Some NoRowLeft) (lt-leb (label-total a) rows lt)
-
-  pub unhindered : None ≡ refusal a rows → label-total a ≤ rows → hindrance a rows ≡ None
-  unhindered h le = ap (λ o. orOther o (cond (leb (label-total a) rows) None (Some NoRowLeft))) (sym h) ∙ cond-true (leb (label-total a) rows) None (Some NoRowLeft) (le-leb (label-total a) rows le)
 
   pub walk-unhindered : (long : ℕ) → long ≡ suc (a .inst .horizon) → hindrance a rows ≡ None → walk-hindrance a rows long ≡ None
   walk-unhindered long e h = cond-true (eqb long (suc (a .inst .horizon))) (hindrance a rows) (Some WrongLength) (eq-eqb long (suc (a .inst .horizon)) e) ∙ h

@@ -1,19 +1,18 @@
 -- The labels that arrive: from which tick on the cart may stand at its goal, and where those labels stand in the tables.
 -- Assumes nothing.
 use mathlib.Core.Path.{_≡_, refl, sym, ap, subst, _∙_}
-use mathlib.Core.Bool.{Bool, true, false, cond, not}
+use mathlib.Core.Bool.{true, false, not}
 use mathlib.Core.List.{List, [], _∷_, _++_, map}
 use mathlib.Core.Logic.{_⊎_, inl, inr}
 use Prim.Native.Nat.{ℕ, zero, suc, _+_, _-_, _*_, _<_, _≤_}
 use native.Mathlib.Omega.{arith}
-use lib.Dec.{leb}
 use lib.ListN.{length, take, getD}
 use Rattle.std.specs.Iters.{counting}
 use Rattle.std.proofs.shelf.Tests.{cases-bool, cases-lt, both-ways, leb-true, le-leb, lt-leb, cond-true, cond-false, cond-both}
 use Rattle.std.proofs.shelf.Lists.{length-take-le, length-append, length-map}
 use Rattle.rules.specs.Kinds.{Laws}
 use Rattle.rules.specs.Instances.{goal-of}
-use Rattle.rules.specs.Offers.{Label, joined-lists, total-length, may-stand, stood, kept, arrivals}
+use Rattle.rules.specs.Offers.{Label, joined-lists, total-length, may-stand, kept, arrivals}
 use Rattle.rules.proofs.Fronts.{front-short}
 use Rattle.rules.proofs.Obeying.{stands-at, stands-from}
 use Rattle.rules.proofs.Offers.{arriving}

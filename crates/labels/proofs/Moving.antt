@@ -1,7 +1,7 @@
 -- Selecting among the candidates of a cell, move by move.
 -- Assumes nothing.
-use mathlib.Core.Path.{_≡_, refl, sym, ap, subst, _∙_}
-use mathlib.Core.Bool.{Bool, true, false, cond, _&&_}
+use mathlib.Core.Path.{_≡_, refl, sym, ap, _∙_}
+use mathlib.Core.Bool.{Bool}
 use mathlib.Core.List.{List, [], _∷_, _++_, map}
 use mathlib.Core.Logic.{inl, inr}
 use Prim.Native.Nat.{ℕ, _+_, _<_, _≤_}
@@ -21,7 +21,7 @@ use Rattle.labels.specs.declared.inbound.Inbound.{Inbound}
 use Rattle.labels.specs.Cells.{by-one}
 use Rattle.labels.specs.Indexes.{into, inbound-of}
 use Rattle.labels.specs.Picks.{picked, better}
-use Rattle.labels.specs.Queries.{Asked, row-of, place-count, may-take, reaching}
+use Rattle.labels.specs.Queries.{Asked, row-of, place-count, reaching}
 
 pub picked-append : {C X : Type 0} (k : Kind C) (skip : C → Bool) (o : Option (Entry C X)) (xs ys : List (Entry C X)) → picked k skip o (xs ++ ys) ≡ picked k skip (picked k skip o xs) ys
 picked-append k skip o [] ys = refl

@@ -1,6 +1,6 @@
 -- Choosing offers among the labels that arrive.
 -- Assumes nothing.
-use mathlib.Core.Path.{_≡_, refl, sym, ap, subst, _∙_}
+use mathlib.Core.Path.{_≡_, refl, sym, ap, _∙_}
 use mathlib.Core.Bool.{Bool, true, false, cond, _&&_, _||_, not}
 use mathlib.Core.List.{List, [], _∷_, _++_, map}
 use mathlib.Core.Logic.{inl, inr}
@@ -15,14 +15,14 @@ use Rattle.std.specs.shelf.Maps.{nth}
 use Rattle.std.proofs.shelf.Tests.{cases-bool}
 use Rattle.std.proofs.shelf.Lists.{length-append, length-map, length-drop, length-take, length-take-le, getD-take, getD-map, at-drop-more, at-drop-all, take-take, take-map, drop-map}
 use Rattle.rules.specs.Kinds.{Kind, Laws}
-use Rattle.rules.specs.Fronts.{Entry, front-of}
+use Rattle.rules.specs.Fronts.{front-of}
 use Rattle.rules.specs.Offers.{Label, joined-lists}
 use Rattle.labels.specs.declared.landing.Landing.{Landing}
 use Rattle.labels.specs.declared.landing.Offer.{Offer}
 use Rattle.labels.specs.declared.row.LabelRow.{LabelRow}
-use Rattle.labels.specs.Landings.{cell-of, run-of, standing, landed-from, landed, Lands, row-costs, shown-offer, shown-lead, dominated-by, goes-first, Chooses}
-use Rattle.labels.specs.Picks.{sooner, better, picked, dominated, last-cost, comes-after, out-of-turn}
-use Rattle.labels.specs.Rows.{trace-at, shown}
+use Rattle.labels.specs.Landings.{cell-of, run-of, standing, landed-from, landed, Lands, row-costs, shown-offer, shown-lead, dominated-by, goes-first}
+use Rattle.labels.specs.Picks.{better, picked, dominated, last-cost, out-of-turn}
+use Rattle.labels.specs.Rows.{shown}
 use Rattle.labels.proofs.Filling.{nth-here, nth-over}
 use Rattle.labels.proofs.Moving.{picked-append}
 use Rattle.labels.proofs.Picking.{picks-after}

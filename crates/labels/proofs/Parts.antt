@@ -1,16 +1,15 @@
 -- Lists in parts: what is joined, how long it is, and where each part stands.
 -- Assumes nothing.
 use mathlib.Core.Path.{_≡_, refl, sym, ap, subst, _∙_}
-use mathlib.Core.List.{List, [], _∷_, _++_, map}
+use mathlib.Core.List.{List, [], _∷_, _++_}
 use mathlib.Core.Logic.{inl, inr}
-use Prim.Native.Nat.{ℕ, suc, _+_, _-_, _<_, _≤_}
+use Prim.Native.Nat.{ℕ, _+_, _-_, _<_, _≤_}
 use native.Mathlib.Omega.{arith}
 use lib.ListN.{length, take, drop, getD, set}
-use Rattle.std.specs.Iters.{counting}
 use Rattle.std.specs.shelf.Lists.{All}
 use Rattle.std.proofs.shelf.Elements.{all-getD}
 use Rattle.std.proofs.shelf.Tests.{cases-eq}
-use Rattle.std.proofs.shelf.Lists.{append-nil, append-assoc, take-append-drop, take-more, take-all, take-at, length-append, length-push, drop-at, take-append-le, getD-set-same, getD-set-other, take-more-set, length-set, length-take-le, length-drop, getD-drop, getD-take}
+use Rattle.std.proofs.shelf.Lists.{append-nil, append-assoc, take-append-drop, take-more, take-all, take-at, length-append, length-push, drop-at, take-append-le, getD-set-same, getD-set-other, length-take-le, length-drop, getD-drop, getD-take}
 use Rattle.rules.specs.Offers.{joined-lists, total-length}
 use Rattle.labels.specs.Parts.{Marked, Part}
 

@@ -1,11 +1,10 @@
 -- Picking one after another gives the front: what `front-of` keeps, and what is picked after the first of it.
 -- Assumes nothing.
 use mathlib.Core.Path.{_≡_, refl, sym, ap, subst, _∙_}
-use mathlib.Core.Bool.{Bool, true, false, cond, _||_, _&&_, not}
+use mathlib.Core.Bool.{Bool, true, false, _&&_, not}
 use mathlib.Core.List.{List, [], _∷_, _++_}
 use mathlib.Core.Logic.{_⊎_, inl, inr}
-use Prim.Native.Nat.{ℕ, _+_, _<_, _≤_}
-use native.Mathlib.Omega.{arith}
+use Prim.Native.Nat.{ℕ, _+_, _<_}
 use lib.ListN.{length, take, drop, getD}
 use Rattle.std.specs.declared.option.Option.{Option}
 use Rattle.std.specs.declared.option.Option.the-variants.{Some, None}
@@ -13,8 +12,8 @@ use Rattle.std.specs.shelf.Lists.{All}
 use Rattle.std.specs.shelf.Maps.{nth}
 use Rattle.std.proofs.shelf.Lists.{append-nil, append-assoc, take-append-drop, drop-more, take-all}
 use Rattle.std.proofs.shelf.Maps.{nth-getD, nth-past}
-use Rattle.std.proofs.shelf.Tests.{cases-bool, cases-lt, both-ways, or-parts, or-from, not-false, and-cases, and-parts, and-from}
-use Rattle.std.proofs.shelf.Elements.{all-push, all-weaker, all-append}
+use Rattle.std.proofs.shelf.Tests.{cases-bool, cases-lt, both-ways, or-parts, or-from, not-false, and-from}
+use Rattle.std.proofs.shelf.Elements.{all-push, all-weaker}
 use Rattle.rules.specs.Kinds.{Kind, Laws, AtMost, Before}
 use Rattle.rules.specs.Fronts.{Entry, covered, added, added-all, front-of}
 use Rattle.rules.proofs.Members.{Any, any-weaker}

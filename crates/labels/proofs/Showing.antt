@@ -1,22 +1,22 @@
 -- What rows show, one row more, and a part of them.
 -- Assumes nothing.
-use mathlib.Core.Path.{_≡_, refl, sym, ap, subst, _∙_}
+use mathlib.Core.Path.{_≡_, refl, sym, ap, _∙_}
 use mathlib.Core.Bool.{Bool, true, false, cond, _&&_, _||_, not}
 use mathlib.Core.List.{List, [], _∷_, _++_, map}
-use mathlib.Core.Logic.{_⊎_, inl, inr}
-use Prim.Native.Nat.{ℕ, zero, suc, _+_, _<_, _≤_}
+use mathlib.Core.Logic.{inl, inr}
+use Prim.Native.Nat.{ℕ, _+_, _<_, _≤_}
 use lib.ListN.{length, take, drop, getD}
 use native.Mathlib.Omega.{arith}
 use Rattle.std.specs.declared.option.Option.{Option}
 use Rattle.std.specs.declared.option.Option.the-variants.{Some, None}
 use Rattle.std.proofs.shelf.Tests.{cases-bool}
-use Rattle.std.proofs.shelf.Lists.{append-nil, append-assoc, length-push, length-take, length-take-le, getD-take, getD-map, map-push, length-map, at-drop-more, at-drop-all, take-append-le, take-all, getD-default}
+use Rattle.std.proofs.shelf.Lists.{append-nil, append-assoc, length-push, length-take-le, getD-take, getD-map, map-push, at-drop-more, at-drop-all}
 use Rattle.rules.specs.Kinds.{Kind}
-use Rattle.rules.specs.Fronts.{Entry, covered}
+use Rattle.rules.specs.Fronts.{covered}
 use Rattle.rules.specs.Offers.{Label}
 use Rattle.labels.specs.declared.row.LabelRow.{LabelRow}
-use Rattle.labels.specs.Picks.{sooner, better, picked}
-use Rattle.labels.specs.Rows.{trace-at, shown-row, shown-from, shown, shown-best, extended-by, leads}
+use Rattle.labels.specs.Picks.{better, picked}
+use Rattle.labels.specs.Rows.{shown-row, shown-from, shown, shown-best, extended-by, leads}
 
 module _ {C : Type 0} where
   push-from : (ls : List (Label C)) (rs : List (LabelRow C)) (r : LabelRow C) → shown-from ls (rs ++ r ∷ []) ≡ shown-from ls rs ++ shown-row (shown-from ls rs) r ∷ []

@@ -1,15 +1,14 @@
 -- The tables, cell by cell and tick by tick.
 -- Assumes nothing.
 use mathlib.Core.Path.{_≡_, refl, sym, ap, subst, _∙_}
-use mathlib.Core.Bool.{Bool, true, false, cond, _&&_}
+use mathlib.Core.Bool.{Bool, cond, _&&_}
 use mathlib.Core.List.{List, [], _∷_, _++_, map}
 use mathlib.Core.Logic.{inl, inr}
-use Prim.Native.Nat.{ℕ, zero, suc, _+_, _-_, _*_, _<_, _≤_}
+use Prim.Native.Nat.{ℕ, zero, suc, _+_, _*_, _<_, _≤_}
 use native.Mathlib.Omega.{arith}
-use native.Mathlib.Nat.{suc-mul, mul-le-mul, mul-le-mul-right}
+use native.Mathlib.Nat.{suc-mul, mul-le-mul-right}
 use lib.Dec.{eqb}
-use lib.ListN.{length, take, drop, getD, set}
-use Rattle.std.specs.declared.option.Option.{Option}
+use lib.ListN.{length, take, getD, set}
 use Rattle.std.specs.declared.option.Option.the-variants.{Some, None}
 use Rattle.std.specs.Iters.{counting}
 use Rattle.std.proofs.shelf.Tests.{cases-eq}
@@ -20,16 +19,15 @@ use Rattle.carts.specs.declared.cart.Cart.{Cart}
 use Rattle.rules.specs.Fronts.{front-of}
 use Rattle.rules.specs.Instances.{Cart as CartMeant, start-of}
 use Rattle.rules.specs.Offers.{Label, joined-lists, total-length}
-use Rattle.labels.specs.declared.cell.Cell.{Cell}
 use Rattle.labels.specs.declared.layer.Layer.{Layer}
 use Rattle.labels.specs.declared.row.LabelRow.{LabelRow}
 use Rattle.labels.specs.Cells.{Runs, Grown}
-use Rattle.labels.specs.Parts.{Marked, Part}
+use Rattle.labels.specs.Parts.{Part}
 use Rattle.labels.specs.Queries.{Asked, row-of, place-count, may-be-at, reaching, label-total}
 use Rattle.labels.specs.Rows.{shown, shown-row, trace-at}
 use Rattle.labels.specs.Seeking.{busy-at}
-use Rattle.labels.specs.Tables.{Hold, Holding, Filled, Laid, cells-before, all-cells}
-use Rattle.labels.proofs.Parts.{joined-append, joined-push, total-append, length-joined, total-more, total-part, marked-none, marked-more, part-at}
+use Rattle.labels.specs.Tables.{Hold, Filled, Laid, cells-before, all-cells}
+use Rattle.labels.proofs.Parts.{joined-push, total-append, length-joined, total-more, total-part, marked-none, marked-more, part-at}
 use Rattle.labels.proofs.Showing.{shown-push, length-shown}
 
 -- a cart's places, as the code reads them

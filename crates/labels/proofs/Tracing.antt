@@ -1,13 +1,13 @@
 -- Following a label's parents back, place by place.
 -- Assumes nothing.
-use mathlib.Core.Path.{_≡_, refl, sym, ap, subst, _∙_}
+use mathlib.Core.Path.{_≡_, refl, sym, ap, _∙_}
 use mathlib.Core.List.{List, [], _∷_, _++_, map, reverse}
 use mathlib.Core.Logic.{inl, inr}
 use Prim.Native.Nat.{ℕ, zero, suc, _+_, _-_, _<_, _≤_}
 use native.Mathlib.Omega.{arith}
 use lib.ListN.{length, take, drop, getD, set, replicate}
 use Rattle.std.proofs.shelf.Tests.{cases-lt}
-use Rattle.std.proofs.shelf.Lists.{append-nil, append-assoc, take-append-drop, map-append, length-map, length-append, length-take-le, getD-append-left, getD-at, getD-past, take-more, take-all, drop-more, drop-set, reverse-append, replicate-more, drop-replicate}
+use Rattle.std.proofs.shelf.Lists.{append-nil, append-assoc, take-append-drop, map-append, length-map, length-take-le, getD-append-left, getD-at, getD-past, take-more, take-all, drop-more, drop-set, reverse-append, replicate-more, drop-replicate}
 use Rattle.rules.specs.Offers.{Label}
 use Rattle.labels.specs.declared.row.LabelRow.{LabelRow}
 use Rattle.labels.specs.Rows.{trace-at, shown-row, shown-from, shown}

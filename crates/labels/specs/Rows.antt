@@ -3,12 +3,11 @@
 use mathlib.Core.Bool.{Bool, true}
 use mathlib.Core.List.{List, [], _∷_, _++_, map}
 use Prim.Native.Nat.{ℕ}
-use lib.ListN.{getD, take, drop}
+use lib.ListN.{getD}
 use Rattle.std.specs.declared.option.Option.{Option}
 use Rattle.std.specs.declared.option.Option.the-variants.{Some, None}
 use Rattle.std.specs.Options.{mapped}
 use Rattle.rules.specs.Kinds.{Kind}
-use Rattle.rules.specs.Fronts.{Entry}
 use Rattle.rules.specs.Offers.{Label}
 use Rattle.labels.specs.declared.row.LabelRow.{LabelRow}
 

@@ -1,16 +1,16 @@
 -- The tables of one cart's labels: the rows, and where each cell begins.
 -- Assumes nothing.
 use mathlib.Core.Path.{_≡_}
-use mathlib.Core.List.{List, [], _∷_, _++_}
+use mathlib.Core.List.{List, [], _++_}
 use Prim.Native.Nat.{ℕ, zero, suc, _+_, _<_, _≤_}
-use lib.ListN.{length, getD, take}
+use lib.ListN.{length, take}
 use Rattle.std.specs.declared.option.Option.{Option}
 use Rattle.std.specs.declared.option.Option.the-variants.{Some, None}
 use Rattle.rules.specs.Offers.{Label, joined-lists, total-length}
 use Rattle.labels.specs.declared.layer.Layer.{Layer}
 use Rattle.labels.specs.declared.row.LabelRow.{LabelRow}
 use Rattle.labels.specs.Parts.{Marked}
-use Rattle.labels.specs.Queries.{Asked, row-of, place-count, label-total}
+use Rattle.labels.specs.Queries.{Asked, row-of, label-total}
 use Rattle.labels.specs.Rows.{shown}
 use Rattle.labels.specs.Seeking.{busy-at}
 

@@ -1,9 +1,8 @@
 ghost use mathlib.Core.Path.{_≡_};
 ghost use mathlib.Core.List.{[], _∷_, _++_};
-ghost use Prim.Native.Nat.{ℕ, _+_, _<_, _≤_};
+ghost use Prim.Native.Nat.{_+_, _<_, _≤_};
 ghost use lib.ListN.{length, take, getD};
 ghost use Rattle.rules.specs.Fronts.{front-of};
-ghost use Rattle.rules.specs.Instances.{start-of};
 ghost use Rattle.labels.specs.Cells.{Ready, Grown};
 ghost use Rattle.labels.specs.Indexes.{AllIndexed, Indexed};
 ghost use Rattle.labels.specs.Queries.{asked, row-of, place-count, reaching};

@@ -1,6 +1,5 @@
-ghost use mathlib.Core.Path.{_≡_};
 ghost use mathlib.Core.List.{[]};
-ghost use Prim.Native.Nat.{ℕ, _+_, _≤_};
+ghost use Prim.Native.Nat.{_+_, _≤_};
 ghost use lib.ListN.{length, getD};
 ghost use Rattle.labels.specs.Indexes.{into, inbound-of, Appended, AllIndexed};
 use crate::inbound::Inbound;

@@ -1,5 +1,5 @@
 ghost use mathlib.Core.Path.{_≡_};
-ghost use Prim.Native.Nat.{ℕ, _*_, _+_, _<_, _≤_, suc};
+ghost use Prim.Native.Nat.{_+_, _<_, _≤_, suc};
 ghost use lib.ListN.{length};
 ghost use Rattle.labels.specs.Indexes.{AllIndexed};
 ghost use Rattle.labels.specs.Queries.{asked, place-count};

@@ -1,4 +1,4 @@
-use mathlib.Core.Path.{_≡_, sym, _∙_}
+use mathlib.Core.Path.{sym, _∙_}
 use Rattle.labels.specs.Queries.{asked}
 use Rattle.labels.proofs.Seeking.{quiet-to}
 use Rattle.labels.proofs.allowed.is_barred.Needs as need

@@ -1,10 +1,10 @@
-use mathlib.Core.Path.{_≡_, sym, ap, _∙_}
+use mathlib.Core.Path.{sym}
 use native.Mathlib.Omega.{arith}
 use lib.ListN.{length}
 use Rattle.carts.specs.Carts.{cart-of}
 use Rattle.std.proofs.shelf.Lists.{length-map}
 use Rattle.labels.specs.Queries.{asked}
-use Rattle.labels.proofs.Answering.{admitted, hindered-refused, hindered-full, unhindered}
+use Rattle.labels.proofs.Answering.{admitted}
 use Rattle.labels.proofs.calls.lay_out.Needs as need
 
 pub fill-labels-requires : need.fill-labels-requires

@@ -1,7 +1,7 @@
-use mathlib.Core.Path.{_≡_, sym, ap, _∙_}
+use mathlib.Core.Path.{_≡_, ap, _∙_}
 use mathlib.Core.List.{reverse}
 use native.Mathlib.Omega.{arith}
-use Prim.Native.Nat.{_+_, _-_}
+use Prim.Native.Nat.{_-_}
 use lib.ListN.{length, take}
 use Rattle.carts.specs.Carts.{cart-of}
 use Rattle.std.specs.Options.{mapped}
@@ -9,7 +9,7 @@ use Rattle.std.specs.shelf.Maps.{nth}
 use Rattle.std.proofs.shelf.Lists.{length-map}
 use Rattle.labels.specs.Answers.{walked}
 use Rattle.labels.specs.Landings.{shown-offer}
-use Rattle.labels.specs.Queries.{asked, offers-of}
+use Rattle.labels.specs.Queries.{asked}
 use Rattle.labels.specs.Rows.{shown, trace-at}
 use Rattle.labels.proofs.Answering.{solved-lands, solved-offers, offer-long}
 use Rattle.labels.proofs.calls.serve.Needs as need

@@ -1,14 +1,9 @@
-use mathlib.Core.Path.{_≡_, sym, ap, _∙_}
-use mathlib.Core.Bool.{true, cond}
+use mathlib.Core.Path.{sym, ap, _∙_}
 use native.Mathlib.Omega.{arith}
-use Prim.Native.Nat.{suc}
-use lib.Dec.{eqb}
 use lib.ListN.{length}
-use Rattle.std.specs.declared.option.Option.the-variants.{Some, None}
 use Rattle.std.specs.declared.result.Result.the-variants.{Ok}
 use Rattle.std.specs.shelf.Maps.{nth}
-use Rattle.std.proofs.shelf.Tests.{cond-true, eq-eqb}
-use Rattle.labels.specs.Answers.{told, cost-of, walk-of, hindrance, walk-hindrance}
+use Rattle.labels.specs.Answers.{told, cost-of, walk-of}
 use Rattle.labels.specs.Queries.{asked, offers-of}
 use Rattle.labels.proofs.Answering.{walk-promise, walk-unhindered}
 use Rattle.labels.proofs.calls.take_offer.Needs as need

@@ -2,7 +2,6 @@ use mathlib.Core.Path.{_≡_, sym, ap, _∙_}
 use mathlib.Core.Bool.{not}
 use mathlib.Core.Logic.{inl, inr}
 use native.Mathlib.Omega.{arith}
-use Rattle.rules.specs.Instances.{goal-of}
 use Rattle.labels.specs.Queries.{asked, may-be-at}
 use Rattle.labels.proofs.Arriving.{stands, stands-more}
 use Rattle.labels.proofs.Tabling.{goal-at}

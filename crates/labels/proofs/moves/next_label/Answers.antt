@@ -1,12 +1,11 @@
-use mathlib.Core.Path.{_≡_, sym, ap, _∙_}
-use native.Mathlib.Omega.{arith}
+use mathlib.Core.Path.{sym, ap, _∙_}
 use Prim.Native.Nat.{_+_, _<_}
 use lib.ListN.{take, drop, getD, length}
 use Rattle.std.specs.declared.option.Option.the-variants.{None}
 use Rattle.rules.specs.Fronts.{covered}
 use Rattle.labels.specs.Indexes.{inbound-of}
 use Rattle.labels.specs.Picks.{picked}
-use Rattle.labels.specs.Queries.{asked, place-count}
+use Rattle.labels.specs.Queries.{asked}
 use Rattle.labels.specs.Rows.{shown, shown-best}
 use Rattle.labels.proofs.Indexing.{inbound-inside}
 use Rattle.labels.proofs.Moving.{by-all, reaching-is, moves-at, moves-end}

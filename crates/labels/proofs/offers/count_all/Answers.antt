@@ -1,6 +1,5 @@
-use mathlib.Core.Path.{_≡_, sym, ap, _∙_}
 use native.Mathlib.Omega.{arith}
-use Prim.Native.Nat.{_+_, _-_, _<_, _≤_}
+use Prim.Native.Nat.{_+_, _-_, _<_}
 use lib.ListN.{take, length}
 use Rattle.rules.specs.Fronts.{front-of}
 use Rattle.rules.proofs.Fronts.{front-short}

@@ -1,7 +1,6 @@
 use mathlib.Core.Path.{_≡_, sym, ap, _∙_}
 use mathlib.Core.Bool.{true, false}
 use native.Mathlib.Omega.{arith}
-use borrow.Author.Needs.{needs}
 use lib.ListN.{take, drop, length, getD}
 use Prim.Native.Nat.{_≤_, _+_}
 use Rattle.std.proofs.shelf.Lists.{length-take-le}

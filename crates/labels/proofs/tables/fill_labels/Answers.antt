@@ -1,9 +1,9 @@
-use mathlib.Core.Path.{_≡_, refl, sym, ap, subst, _∙_}
+use mathlib.Core.Path.{_≡_, refl, sym, ap, subst}
 use native.Mathlib.Omega.{arith}
-use Prim.Native.Nat.{suc, _+_, _≤_, _<_}
+use Prim.Native.Nat.{suc, _+_, _≤_}
 use lib.ListN.{length, set}
 use Rattle.std.proofs.shelf.Lists.{getD-set-same, length-set}
-use Rattle.labels.specs.Queries.{asked, place-count}
+use Rattle.labels.specs.Queries.{asked}
 use Rattle.labels.specs.Tables.{Hold, cells-before}
 use Rattle.labels.proofs.Tabling.{table-room, hold-start, laid-first, laid-next, ticks-all, ticks-full}
 use Rattle.labels.proofs.tables.fill_labels.Needs as need
