@@ -79,13 +79,10 @@ fn comes_after<C: CostKind>(last: Option<C>, cost: C) -> bool {
     }
 }
 
-// Whether the offers are the undominated costs of the walks, each once and in order, each with a walk that has it, and no more.
-fn offers_agree<F: Floor, C: CostKind>(heap: Global, query: &Query<'_, F, C, Constraint>, walks: &[Beginning<C>], rows: &mut [LabelRow<C>]) -> Result<bool, AllocError> {
+// Whether the offers, `count` of them, are the undominated costs of the walks, each once and in order, each with a walk that has it, and no more.
+fn offers_agree<F: Floor, C: CostKind>(heap: Global, query: &Query<'_, F, C, Constraint>, walks: &[Beginning<C>], count: u16, rows: &mut [LabelRow<C>]) -> Result<bool, AllocError> {
     let costs = undominated(heap, walks)?;
     let mut places = vec![in heap; 0u8; query.horizon as usize + 1]?;
-    let Ok(count) = count_offers(query, rows) else {
-        return Ok(false);
-    };
     let mut last = None;
     for number in 0..count {
         let Ok(Some(cost)) = take_offer(query, number, rows, places.as_mut_slice()) else {
@@ -99,15 +96,14 @@ fn offers_agree<F: Floor, C: CostKind>(heap: Global, query: &Query<'_, F, C, Con
     Ok(count as usize == costs.len() && matches!(take_offer(query, count, rows, places.as_mut_slice()), Ok(None)))
 }
 
-// Whether the label search and the search that tries every walk agree: in the number of labels and in all offers.
-pub fn searches_agree<F: Floor, C: CostKind>(heap: Global, query: &Query<'_, F, C, Constraint>, cart: Cart, rows: &mut [LabelRow<C>]) -> Result<bool, AllocError> {
+// The number of offers, if the label search and the search that tries every walk agree: in the number of labels and in all offers.
+pub fn compare<F: Floor, C: CostKind>(heap: Global, query: &Query<'_, F, C, Constraint>, cart: Cart, rows: &mut [LabelRow<C>]) -> Result<Option<u16>, AllocError> {
     let beginnings = all_beginnings(heap, query, cart.start)?;
-    let Ok(labels) = count_labels(query, rows) else {
-        return Ok(false);
-    };
-    if labels as usize != label_total(heap, beginnings.as_slice(), query.floor.places())? {
-        return Ok(false);
-    }
     let walks = walks_of(heap, query, cart.goal, beginnings.as_slice())?;
-    offers_agree(heap, query, walks.as_slice(), rows)
+    let total = label_total(heap, beginnings.as_slice(), query.floor.places())?;
+    let (Ok(labels), Ok(offers)) = (count_labels(query, rows), count_offers(query, rows)) else {
+        return Ok(None);
+    };
+    let agree = labels as usize == total && offers_agree(heap, query, walks.as_slice(), offers, rows)?;
+    Ok(if agree { Some(offers) } else { None })
 }

@@ -1,7 +1,8 @@
 // Runs the label search on many small floors beside a search that tries every walk, and prints how often the two agree.
-use crate::settings::run_setting;
 use crate::generated::PairGenerated;
 use crate::generated::ZonesGenerated;
+use crate::settings::TRIALS;
+use crate::settings::run_setting;
 use costs::Pair;
 use costs::PairKind;
 use costs::PairText;
@@ -28,11 +29,12 @@ mod trial;
 
 fn run(rt: &LibcRuntime) -> Result<(), AnyError> {
     let costs = run_setting::<Pair<Total, Worst>>(rt, "costs without constraints", 0)? as u32;
-    let costs_constrained = run_setting::<Pair<Total, Worst>>(rt, "costs with constraints", 5)? as u32;
+    let costs_constrained = run_setting::<Pair<Total, Worst>>(rt, "costs with constraints", 8)? as u32;
     let zones = run_setting::<Zones>(rt, "zones without constraints", 0)? as u32;
-    let zones_constrained = run_setting::<Zones>(rt, "zones with constraints", 5)? as u32;
+    let zones_constrained = run_setting::<Zones>(rt, "zones with constraints", 8)? as u32;
     let agreed = costs + costs_constrained + zones + zones_constrained;
-    println!(rt, "{agreed} of 2000 agree")?;
+    let trials = 4 * TRIALS;
+    println!(rt, "all settings: {agreed} of {trials} agree")?;
     Ok(())
 }
 

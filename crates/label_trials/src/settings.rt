@@ -1,4 +1,4 @@
-use crate::comparing::searches_agree;
+use crate::comparing::compare;
 use crate::floors_made::make_grid;
 use crate::floors_made::make_lanes;
 use crate::generated::Generated;
@@ -14,7 +14,8 @@ use std::alloc::AllocError;
 use std::alloc::Global;
 use std::error::AnyError;
 
-const TRIALS: u16 = 500;
+// How many trials a setting has.
+pub const TRIALS: u16 = 500;
 
 const ROWS: usize = 4096;
 
@@ -26,8 +27,8 @@ fn make_rows<C: CostKind>(heap: Global) -> Result<Vec<LabelRow<C>>, AllocError> 
     Ok(rows)
 }
 
-// One trial on a floor, with at most so many constraints.
-fn run_trial<F: Floor, C: Generated>(heap: Global, numbers: &mut Numbers, floor: &F, most: u8, rows: &mut [LabelRow<C>]) -> Result<bool, AnyError> {
+// One trial on a floor, with at most so many constraints: the number of offers, if the searches agree.
+fn run_trial<F: Floor, C: Generated>(heap: Global, numbers: &mut Numbers, floor: &F, most: u8, rows: &mut [LabelRow<C>]) -> Result<Option<u16>, AnyError> {
     let trial = make_trial::<F, C>(heap, numbers, floor, most)?;
     let query = Query {
         floor,
@@ -37,12 +38,11 @@ fn run_trial<F: Floor, C: Generated>(heap: Global, numbers: &mut Numbers, floor:
         constraints: trial.constraints.as_slice(),
         cart: trial.cart,
     };
-    let cart = if trial.cart == 0 { trial.carts[0] } else { trial.carts[1] };
-    Ok(searches_agree(heap, &query, cart, rows)?)
+    Ok(compare(heap, &query, trial.searched(), rows)?)
 }
 
-// A trial on a grid, or on a floor of lanes.
-fn run_numbered<C: Generated>(heap: Global, numbers: &mut Numbers, number: u16, most: u8, rows: &mut [LabelRow<C>]) -> Result<bool, AnyError> {
+// One trial on a grid, or on a floor of lanes.
+fn run_numbered<C: Generated>(heap: Global, numbers: &mut Numbers, number: u16, most: u8, rows: &mut [LabelRow<C>]) -> Result<Option<u16>, AnyError> {
     if number % 2 == 0 {
         let floor = make_grid(heap, numbers)?;
         run_trial(heap, numbers, &floor, most, rows)
@@ -52,17 +52,19 @@ fn run_numbered<C: Generated>(heap: Global, numbers: &mut Numbers, number: u16, 
     }
 }
 
-// Runs all trials of a kind of cost with at most so many constraints, prints how many agree, and says so.
+// Runs all trials of a kind of cost with at most so many constraints, prints how many agree and how many offers those have, and says how many agree.
 pub fn run_setting<C: Generated>(rt: &LibcRuntime, name: &str, most: u8) -> Result<u16, AnyError> {
     let heap = rt.alloc();
     let mut numbers = Numbers::new(1);
     let mut rows = make_rows::<C>(heap)?;
     let mut agreed = 0u16;
+    let mut offers = 0u32;
     for number in 0..TRIALS {
-        if run_numbered::<C>(heap, &mut numbers, number, most, rows.as_mut_slice())? {
+        if let Some(count) = run_numbered::<C>(heap, &mut numbers, number, most, rows.as_mut_slice())? {
             agreed = agreed.saturating_add(1);
+            offers = offers.saturating_add(count as u32);
         }
     }
-    println!(rt, "{name}: {agreed} of {TRIALS} agree")?;
+    println!(rt, "{name}: {agreed} of {TRIALS} agree, with {offers} offers")?;
     Ok(agreed)
 }

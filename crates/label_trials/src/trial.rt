@@ -17,6 +17,13 @@ pub struct Trial<C: Drop> {
     pub constraints: Vec<Constraint>,
 }
 
+impl<C: Drop> Trial<C> {
+    // The cart that is searched for.
+    pub fn searched(&self) -> Cart {
+        if self.cart == 0 { self.carts[0] } else { self.carts[1] }
+    }
+}
+
 fn make_tariff<C: Generated>(heap: Global, numbers: &mut Numbers) -> Result<Vec<C>, AllocError> {
     let mut tariff = Vec::new(heap);
     for _ in 0..LINES {
@@ -44,16 +51,26 @@ fn make_constraint<F: Floor>(numbers: &mut Numbers, floor: &F, goal: u8, horizon
     }
 }
 
-pub fn make_trial<F: Floor, C: Generated>(heap: Global, numbers: &mut Numbers, floor: &F, most: u8) -> Result<Trial<C>, AllocError> {
-    let tariff = make_tariff::<C>(heap, numbers)?;
-    let carts = [make_cart(numbers, floor.places()), make_cart(numbers, floor.places())];
-    let cart = numbers.below(2);
-    let horizon = numbers.below(4) + 1;
-    let mut constraints = Vec::new(heap);
-    if most > 0 {
-        for _ in 0..numbers.below(most) + 1 {
-            constraints.push(make_constraint(numbers, floor, carts[0].goal, horizon))?;
-        }
+// Puts up to `most` constraints on the carts of a trial, and at least one.
+fn add_constraints<F: Floor, C: Generated>(trial: &mut Trial<C>, numbers: &mut Numbers, floor: &F, most: u8) -> Result<(), AllocError> {
+    let goal = trial.searched().goal;
+    for _ in 0..numbers.below(most) as u16 + 1 {
+        trial.constraints.push(make_constraint(numbers, floor, goal, trial.horizon))?;
     }
-    Ok(Trial { tariff, carts, cart, horizon, constraints })
+    Ok(())
+}
+
+// A trial on a floor, with up to `most` constraints; with none where that is 0.
+pub fn make_trial<F: Floor, C: Generated>(heap: Global, numbers: &mut Numbers, floor: &F, most: u8) -> Result<Trial<C>, AllocError> {
+    let mut trial = Trial {
+        tariff: make_tariff::<C>(heap, numbers)?,
+        carts: [make_cart(numbers, floor.places()), make_cart(numbers, floor.places())],
+        cart: numbers.below(2),
+        horizon: numbers.below(4) + 1,
+        constraints: Vec::new(heap),
+    };
+    if most > 0 {
+        add_constraints(&mut trial, numbers, floor, most)?;
+    }
+    Ok(trial)
 }
