@@ -36,13 +36,22 @@ fn read_constraint(words: &mut Words<'_>) -> Result<Constraint, AnyError> {
         "v" => {
             let place = words.number::<u8>()?;
             let tick = words.number::<u8>()?;
-            Ok(Constraint::Vertex { cart: 0, place, tick })
+            Ok(Constraint::Vertex {
+                cart: 0,
+                place,
+                tick,
+            })
         }
         "e" => {
             let from = words.number::<u8>()?;
             let to = words.number::<u8>()?;
             let tick = words.number::<u8>()?;
-            Ok(Constraint::Edge { cart: 0, from, to, tick })
+            Ok(Constraint::Edge {
+                cart: 0,
+                from,
+                to,
+                tick,
+            })
         }
         _ => Err("a constraint begins with neither v nor e".into()),
     }
@@ -64,5 +73,10 @@ pub fn read_case<C: Worded>(heap: Global, words: &mut Words<'_>) -> Result<Case<
     words.pass("horizon")?;
     let horizon = words.number::<u8>()?;
     let constraints = read_constraints(heap, words)?;
-    Ok(Case { tariff, carts, horizon, constraints })
+    Ok(Case {
+        tariff,
+        carts,
+        horizon,
+        constraints,
+    })
 }

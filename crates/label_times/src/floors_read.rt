@@ -30,7 +30,8 @@ fn read_lane(words: &mut Words<'_>) -> Result<LaneRow, AnyError> {
 fn lanes_refused(refusal: FloorRefusal) -> AnyError {
     match refusal {
         FloorRefusal::BadSize => "the floor has not 1 to 128 places".into(),
-        FloorRefusal::BadRow(_) => "a lane names an absent place, or is the ninth of its place".into(),
+        FloorRefusal::BadRow(_) =>
+            "a lane names an absent place, or is the ninth of its place".into(),
     }
 }
 

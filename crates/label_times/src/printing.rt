@@ -32,7 +32,11 @@ fn print_walk(rt: &LibcRuntime, places: &[u8]) -> Result<(), AnyError> {
 }
 
 // Prints the number of labels, and every offer with its walk.
-pub fn print_answer<F: Floor, C: CostKind, B: Constrains>(rt: &LibcRuntime, query: &Query<'_, F, C, B>, rows: &mut [LabelRow<C>]) -> Result<(), AnyError> {
+pub fn print_answer<F: Floor, C: CostKind, B: Constrains>(
+    rt: &LibcRuntime,
+    query: &Query<'_, F, C, B>,
+    rows: &mut [LabelRow<C>],
+) -> Result<(), AnyError> {
     let labels = answered(count_labels(query, rows))?;
     println!(rt, "labels {labels}")?;
     let mut places = vec![in rt.alloc(); 0u8; query.horizon as usize + 1]?;

@@ -23,13 +23,22 @@ const ROWS: usize = 65535;
 fn make_rows<C: CostKind>(heap: Global) -> Result<Vec<LabelRow<C>>, AllocError> {
     let mut rows = Vec::with_capacity(heap, ROWS)?;
     for _ in 0..ROWS {
-        rows.push(LabelRow { cost: C::zero(), parent: 0, place: 0 })?;
+        rows.push(LabelRow {
+            cost: C::zero(),
+            parent: 0,
+            place: 0,
+        })?;
     }
     Ok(rows)
 }
 
 // Runs the rest of a case on its floor.
-fn run_on<F: Floor, C: Worded>(rt: &LibcRuntime, floor: &F, repeats: u16, words: &mut Words<'_>) -> Result<(), AnyError> {
+fn run_on<F: Floor, C: Worded>(
+    rt: &LibcRuntime,
+    floor: &F,
+    repeats: u16,
+    words: &mut Words<'_>,
+) -> Result<(), AnyError> {
     let case = read_case::<C>(rt.alloc(), words)?;
     let query = Query {
         floor,

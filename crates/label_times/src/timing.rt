@@ -21,7 +21,11 @@ pub fn answered<T: Drop>(answer: Result<T, LabelRefusal>) -> Result<T, AnyError>
 }
 
 // How long one count of the offers takes, in nanoseconds.
-fn time_once<F: Floor, C: CostKind, B: Constrains>(rt: &LibcRuntime, query: &Query<'_, F, C, B>, rows: &mut [LabelRow<C>]) -> Result<u64, AnyError> {
+fn time_once<F: Floor, C: CostKind, B: Constrains>(
+    rt: &LibcRuntime,
+    query: &Query<'_, F, C, B>,
+    rows: &mut [LabelRow<C>],
+) -> Result<u64, AnyError> {
     let start = Instant::now(rt)?;
     let answer = count_offers(query, rows);
     let spent = start.elapsed(rt)?;
@@ -33,7 +37,12 @@ fn time_once<F: Floor, C: CostKind, B: Constrains>(rt: &LibcRuntime, query: &Que
 }
 
 // The best time of several.
-pub fn best_time<F: Floor, C: CostKind, B: Constrains>(rt: &LibcRuntime, query: &Query<'_, F, C, B>, rows: &mut [LabelRow<C>], repeats: u16) -> Result<u64, AnyError> {
+pub fn best_time<F: Floor, C: CostKind, B: Constrains>(
+    rt: &LibcRuntime,
+    query: &Query<'_, F, C, B>,
+    rows: &mut [LabelRow<C>],
+    repeats: u16,
+) -> Result<u64, AnyError> {
     let mut best = u64::MAX;
     for _ in 0..repeats {
         best = best.min(time_once(rt, query, rows)?);

@@ -10,7 +10,9 @@ pub struct Words<'a> {
 
 impl<'a> Words<'a> {
     pub fn new(text: &'a str) -> Words<'a> {
-        Words { rest: text.split_whitespace() }
+        Words {
+            rest: text.split_whitespace(),
+        }
     }
 
     pub fn word(&mut self) -> Result<&'a str, AnyError> {

@@ -27,7 +27,13 @@ fn digits(code: u16) -> [u8; 4] {
 }
 
 // Every beginning of `count` moves that keeps the constraints as far as it has come: all sequences of the numbers of moves are tried.
-fn add_beginnings<F: Floor, C: CostKind>(query: &Query<'_, F, C, Constraint>, start: u8, count: u8, sequences: u16, found: &mut Vec<Beginning<C>>) -> Result<(), AllocError> {
+fn add_beginnings<F: Floor, C: CostKind>(
+    query: &Query<'_, F, C, Constraint>,
+    start: u8,
+    count: u8,
+    sequences: u16,
+    found: &mut Vec<Beginning<C>>,
+) -> Result<(), AllocError> {
     for code in 0..sequences {
         if let Some(beginning) = follow(query, start, digits(code), count) {
             if keeps(&beginning, query.cart, count, query.constraints) {
@@ -39,7 +45,11 @@ fn add_beginnings<F: Floor, C: CostKind>(query: &Query<'_, F, C, Constraint>, st
 }
 
 // Every beginning that keeps the constraints, up to the horizon.
-pub fn all_beginnings<F: Floor, C: CostKind>(heap: Global, query: &Query<'_, F, C, Constraint>, start: u8) -> Result<Vec<Beginning<C>>, AllocError> {
+pub fn all_beginnings<F: Floor, C: CostKind>(
+    heap: Global,
+    query: &Query<'_, F, C, Constraint>,
+    start: u8,
+) -> Result<Vec<Beginning<C>>, AllocError> {
     let mut found = Vec::new(heap);
     for count in 0..MOST_TICKS as u8 + 1 {
         if count <= query.horizon {
@@ -50,10 +60,17 @@ pub fn all_beginnings<F: Floor, C: CostKind>(heap: Global, query: &Query<'_, F, 
 }
 
 // The walks among them: those that end at the goal and may stand there to the horizon.
-pub fn walks_of<F: Floor, C: CostKind>(heap: Global, query: &Query<'_, F, C, Constraint>, goal: u8, beginnings: &[Beginning<C>]) -> Result<Vec<Beginning<C>>, AllocError> {
+pub fn walks_of<F: Floor, C: CostKind>(
+    heap: Global,
+    query: &Query<'_, F, C, Constraint>,
+    goal: u8,
+    beginnings: &[Beginning<C>],
+) -> Result<Vec<Beginning<C>>, AllocError> {
     let mut walks = Vec::new(heap);
     for beginning in beginnings {
-        if beginning.places[MOST_TICKS] == goal && keeps(beginning, query.cart, query.horizon, query.constraints) {
+        if beginning.places[MOST_TICKS] == goal
+            && keeps(beginning, query.cart, query.horizon, query.constraints)
+        {
             walks.push(*beginning)?;
         }
     }

@@ -14,7 +14,12 @@ pub struct Beginning<C> {
 }
 
 // Goes by the moves with the given numbers, as many as `count`, if each is there.
-pub fn follow<F: Floor, C: CostKind>(query: &Query<'_, F, C, Constraint>, start: u8, numbers: [u8; 4], count: u8) -> Option<Beginning<C>> {
+pub fn follow<F: Floor, C: CostKind>(
+    query: &Query<'_, F, C, Constraint>,
+    start: u8,
+    numbers: [u8; 4],
+    count: u8,
+) -> Option<Beginning<C>> {
     let mut places = [start; 5];
     let mut cost = C::zero();
     let mut at = start;
@@ -31,7 +36,11 @@ pub fn follow<F: Floor, C: CostKind>(query: &Query<'_, F, C, Constraint>, start:
         }
         places[tick + 1] = at;
     }
-    Some(Beginning { moves: count, places, cost })
+    Some(Beginning {
+        moves: count,
+        places,
+        cost,
+    })
 }
 
 fn is_at(places: &[u8; 5], place: u8, tick: u8) -> bool {
@@ -39,15 +48,37 @@ fn is_at(places: &[u8; 5], place: u8, tick: u8) -> bool {
 }
 
 // Whether a beginning goes against a constraint, where the cart stands still from its last move to the tick `last`.
-fn breaks<C: CostKind>(beginning: &Beginning<C>, cart: u8, last: u8, constraint: Constraint) -> bool {
+fn breaks<C: CostKind>(
+    beginning: &Beginning<C>,
+    cart: u8,
+    last: u8,
+    constraint: Constraint,
+) -> bool {
     match constraint {
-        Constraint::Vertex { cart: c, place, tick } => c == cart && tick <= last && is_at(&beginning.places, place, tick),
-        Constraint::Edge { cart: c, from, to, tick } => c == cart && tick < beginning.moves && is_at(&beginning.places, from, tick) && is_at(&beginning.places, to, tick + 1),
+        Constraint::Vertex {
+            cart: c,
+            place,
+            tick,
+        } => c == cart && tick <= last && is_at(&beginning.places, place, tick),
+        Constraint::Edge {
+            cart: c,
+            from,
+            to,
+            tick,
+        } => c == cart
+            && tick < beginning.moves
+            && is_at(&beginning.places, from, tick)
+            && is_at(&beginning.places, to, tick + 1),
     }
 }
 
 // Whether a beginning keeps every constraint, where the cart stands still from its last move to the tick `last`.
-pub fn keeps<C: CostKind>(beginning: &Beginning<C>, cart: u8, last: u8, constraints: &[Constraint]) -> bool {
+pub fn keeps<C: CostKind>(
+    beginning: &Beginning<C>,
+    cart: u8,
+    last: u8,
+    constraints: &[Constraint],
+) -> bool {
     for constraint in constraints {
         if breaks(beginning, cart, last, *constraint) {
             return false;

@@ -19,7 +19,12 @@ use std::alloc::AllocError;
 use std::alloc::Global;
 
 // The beginnings of `count` moves that end at a place.
-fn reaching<C: CostKind>(heap: Global, beginnings: &[Beginning<C>], count: u8, place: u8) -> Result<Vec<Beginning<C>>, AllocError> {
+fn reaching<C: CostKind>(
+    heap: Global,
+    beginnings: &[Beginning<C>],
+    count: u8,
+    place: u8,
+) -> Result<Vec<Beginning<C>>, AllocError> {
     let mut found = Vec::new(heap);
     for beginning in beginnings {
         if beginning.moves == count && beginning.places[MOST_TICKS] == place {
@@ -30,7 +35,11 @@ fn reaching<C: CostKind>(heap: Global, beginnings: &[Beginning<C>], count: u8, p
 }
 
 // How many labels there are: the undominated costs of each tick and place.
-fn label_total<C: CostKind>(heap: Global, beginnings: &[Beginning<C>], places: u8) -> Result<usize, AllocError> {
+fn label_total<C: CostKind>(
+    heap: Global,
+    beginnings: &[Beginning<C>],
+    places: u8,
+) -> Result<usize, AllocError> {
     let mut total = 0usize;
     for count in 0..MOST_TICKS as u8 + 1 {
         for place in 0..places {
@@ -80,7 +89,13 @@ fn comes_after<C: CostKind>(last: Option<C>, cost: C) -> bool {
 }
 
 // Whether the offers, `count` of them, are the undominated costs of the walks, each once and in order, each with a walk that has it, and no more.
-fn offers_agree<F: Floor, C: CostKind>(heap: Global, query: &Query<'_, F, C, Constraint>, walks: &[Beginning<C>], count: u16, rows: &mut [LabelRow<C>]) -> Result<bool, AllocError> {
+fn offers_agree<F: Floor, C: CostKind>(
+    heap: Global,
+    query: &Query<'_, F, C, Constraint>,
+    walks: &[Beginning<C>],
+    count: u16,
+    rows: &mut [LabelRow<C>],
+) -> Result<bool, AllocError> {
     let costs = undominated(heap, walks)?;
     let mut places = vec![in heap; 0u8; query.horizon as usize + 1]?;
     let mut last = None;
@@ -88,22 +103,37 @@ fn offers_agree<F: Floor, C: CostKind>(heap: Global, query: &Query<'_, F, C, Con
         let Ok(Some(cost)) = take_offer(query, number, rows, places.as_mut_slice()) else {
             return Ok(false);
         };
-        if !contains(costs.as_slice(), cost) || !comes_after(last, cost) || !is_walked(walks, cost, places.as_slice()) {
+        if !contains(costs.as_slice(), cost)
+            || !comes_after(last, cost)
+            || !is_walked(walks, cost, places.as_slice())
+        {
             return Ok(false);
         }
         last = Some(cost);
     }
-    Ok(count as usize == costs.len() && matches!(take_offer(query, count, rows, places.as_mut_slice()), Ok(None)))
+    Ok(
+        count as usize == costs.len()
+            && matches!(
+                take_offer(query, count, rows, places.as_mut_slice()),
+                Ok(None)
+            ),
+    )
 }
 
 // The number of offers, if the label search and the search that tries every walk agree: in the number of labels and in all offers.
-pub fn compare<F: Floor, C: CostKind>(heap: Global, query: &Query<'_, F, C, Constraint>, cart: Cart, rows: &mut [LabelRow<C>]) -> Result<Option<u16>, AllocError> {
+pub fn compare<F: Floor, C: CostKind>(
+    heap: Global,
+    query: &Query<'_, F, C, Constraint>,
+    cart: Cart,
+    rows: &mut [LabelRow<C>],
+) -> Result<Option<u16>, AllocError> {
     let beginnings = all_beginnings(heap, query, cart.start)?;
     let walks = walks_of(heap, query, cart.goal, beginnings.as_slice())?;
     let total = label_total(heap, beginnings.as_slice(), query.floor.places())?;
     let (Ok(labels), Ok(offers)) = (count_labels(query, rows), count_offers(query, rows)) else {
         return Ok(None);
     };
-    let agree = labels as usize == total && offers_agree(heap, query, walks.as_slice(), offers, rows)?;
+    let agree = labels as usize == total
+        && offers_agree(heap, query, walks.as_slice(), offers, rows)?;
     Ok(if agree { Some(offers) } else { None })
 }

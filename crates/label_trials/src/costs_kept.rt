@@ -27,7 +27,10 @@ pub fn contains<C: CostKind>(costs: &[C], cost: C) -> bool {
 }
 
 // The costs of beginnings that no other dominates, each once, in no order.
-pub fn undominated<C: CostKind>(heap: Global, beginnings: &[Beginning<C>]) -> Result<Vec<C>, AllocError> {
+pub fn undominated<C: CostKind>(
+    heap: Global,
+    beginnings: &[Beginning<C>],
+) -> Result<Vec<C>, AllocError> {
     let mut costs = Vec::new(heap);
     for beginning in beginnings {
         let cost = beginning.cost;

@@ -33,7 +33,11 @@ pub fn make_lanes(numbers: &mut Numbers) -> Result<LaneFloor, AnyError> {
         for _ in 0..numbers.below(4) {
             let to = numbers.below(places) as u16;
             let line = numbers.below(LINES) as u16;
-            let Ok(()) = floor.add_lane(LaneRow { from: from as u16, to, line }) else {
+            let Ok(()) = floor.add_lane(LaneRow {
+                from: from as u16,
+                to,
+                line,
+            }) else {
                 return Err("a lane is refused".into());
             };
         }

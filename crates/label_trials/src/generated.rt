@@ -34,7 +34,9 @@ pub impl Generated for Zones as ZonesGenerated {
     fn generate(numbers: &mut Numbers) -> Zones {
         let low = numbers.below(8) as u64;
         if numbers.below(4) == 0 {
-            Zones { bits: 9223372036854775808 }
+            Zones {
+                bits: 9223372036854775808,
+            }
         } else {
             Zones { bits: low }
         }

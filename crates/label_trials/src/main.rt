@@ -29,7 +29,11 @@ mod trial;
 
 fn run(rt: &LibcRuntime) -> Result<(), AnyError> {
     let costs = run_setting::<Pair<Total, Worst>>(rt, "costs without constraints", 0)? as u32;
-    let costs_constrained = run_setting::<Pair<Total, Worst>>(rt, "costs with constraints", 8)? as u32;
+    let costs_constrained = run_setting::<Pair<Total, Worst>>(
+        rt,
+        "costs with constraints",
+        8,
+    )? as u32;
     let zones = run_setting::<Zones>(rt, "zones without constraints", 0)? as u32;
     let zones_constrained = run_setting::<Zones>(rt, "zones with constraints", 8)? as u32;
     let agreed = costs + costs_constrained + zones + zones_constrained;

@@ -15,7 +15,9 @@ impl Numbers {
     pub fn below(&mut self, n: u8) -> u8
         ensures { λ r. ⌜ r ≤ n - 1 ⌝ }
     {
-        self.state = self.state.wrapping_mul(6364136223846793005).wrapping_add(1442695040888963407);
+        self.state = self.state
+            .wrapping_mul(6364136223846793005)
+            .wrapping_add(1442695040888963407);
         let high = ((self.state >> 56) & 0xff) as u8;
         if n == 0 { 0 } else { high % n }
     }

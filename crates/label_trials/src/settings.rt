@@ -22,13 +22,23 @@ const ROWS: usize = 4096;
 fn make_rows<C: CostKind>(heap: Global) -> Result<Vec<LabelRow<C>>, AllocError> {
     let mut rows = Vec::with_capacity(heap, ROWS)?;
     for _ in 0..ROWS {
-        rows.push(LabelRow { cost: C::zero(), parent: 0, place: 0 })?;
+        rows.push(LabelRow {
+            cost: C::zero(),
+            parent: 0,
+            place: 0,
+        })?;
     }
     Ok(rows)
 }
 
 // One trial on a floor, with at most so many constraints: the number of offers, if the searches agree.
-fn run_trial<F: Floor, C: Generated>(heap: Global, numbers: &mut Numbers, floor: &F, most: u8, rows: &mut [LabelRow<C>]) -> Result<Option<u16>, AnyError> {
+fn run_trial<F: Floor, C: Generated>(
+    heap: Global,
+    numbers: &mut Numbers,
+    floor: &F,
+    most: u8,
+    rows: &mut [LabelRow<C>],
+) -> Result<Option<u16>, AnyError> {
     let trial = make_trial::<F, C>(heap, numbers, floor, most)?;
     let query = Query {
         floor,
@@ -42,7 +52,13 @@ fn run_trial<F: Floor, C: Generated>(heap: Global, numbers: &mut Numbers, floor:
 }
 
 // One trial on a grid, or on a floor of lanes.
-fn run_numbered<C: Generated>(heap: Global, numbers: &mut Numbers, number: u16, most: u8, rows: &mut [LabelRow<C>]) -> Result<Option<u16>, AnyError> {
+fn run_numbered<C: Generated>(
+    heap: Global,
+    numbers: &mut Numbers,
+    number: u16,
+    most: u8,
+    rows: &mut [LabelRow<C>],
+) -> Result<Option<u16>, AnyError> {
     if number % 2 == 0 {
         let floor = make_grid(heap, numbers)?;
         run_trial(heap, numbers, &floor, most, rows)
@@ -60,11 +76,20 @@ pub fn run_setting<C: Generated>(rt: &LibcRuntime, name: &str, most: u8) -> Resu
     let mut agreed = 0u16;
     let mut offers = 0u32;
     for number in 0..TRIALS {
-        if let Some(count) = run_numbered::<C>(heap, &mut numbers, number, most, rows.as_mut_slice())? {
+        if let Some(count) = run_numbered::<C>(
+            heap,
+            &mut numbers,
+            number,
+            most,
+            rows.as_mut_slice(),
+        )? {
             agreed = agreed.saturating_add(1);
             offers = offers.saturating_add(count as u32);
         }
     }
-    println!(rt, "{name}: {agreed} of {TRIALS} agree, with {offers} offers")?;
+    println!(
+        rt,
+        "{name}: {agreed} of {TRIALS} agree, with {offers} offers"
+    )?;
     Ok(agreed)
 }

@@ -20,7 +20,11 @@ pub struct Trial<C: Drop> {
 impl<C: Drop> Trial<C> {
     // The cart that is searched for.
     pub fn searched(&self) -> Cart {
-        if self.cart == 0 { self.carts[0] } else { self.carts[1] }
+        if self.cart == 0 {
+            self.carts[0]
+        } else {
+            self.carts[1]
+        }
     }
 }
 
@@ -39,32 +43,65 @@ fn make_cart(numbers: &mut Numbers, places: u8) -> Cart {
 }
 
 // A constraint on one of two carts: on a place, on the goal, or on a move of the floor.
-fn make_constraint<F: Floor>(numbers: &mut Numbers, floor: &F, goal: u8, horizon: u8) -> Constraint {
+fn make_constraint<F: Floor>(
+    numbers: &mut Numbers,
+    floor: &F,
+    goal: u8,
+    horizon: u8,
+) -> Constraint {
     let cart = numbers.below(2);
     let place = numbers.below(floor.places());
     let tick = numbers.below(horizon) + 1;
     match (numbers.below(4), floor.step(place, numbers.below(3))) {
-        (0, _) => Constraint::Vertex { cart, place: goal, tick },
-        (1, _) => Constraint::Vertex { cart, place, tick: tick - 1 },
-        (_, Some(step)) => Constraint::Edge { cart, from: place, to: step.to, tick: tick - 1 },
+        (0, _) => Constraint::Vertex {
+            cart,
+            place: goal,
+            tick,
+        },
+        (1, _) => Constraint::Vertex {
+            cart,
+            place,
+            tick: tick - 1,
+        },
+        (_, Some(step)) => Constraint::Edge {
+            cart,
+            from: place,
+            to: step.to,
+            tick: tick - 1,
+        },
         (_, None) => Constraint::Vertex { cart, place, tick },
     }
 }
 
 // Puts up to `most` constraints on the carts of a trial, and at least one.
-fn add_constraints<F: Floor, C: Generated>(trial: &mut Trial<C>, numbers: &mut Numbers, floor: &F, most: u8) -> Result<(), AllocError> {
+fn add_constraints<F: Floor, C: Generated>(
+    trial: &mut Trial<C>,
+    numbers: &mut Numbers,
+    floor: &F,
+    most: u8,
+) -> Result<(), AllocError> {
     let goal = trial.searched().goal;
     for _ in 0..numbers.below(most) as u16 + 1 {
-        trial.constraints.push(make_constraint(numbers, floor, goal, trial.horizon))?;
+        trial
+            .constraints
+            .push(make_constraint(numbers, floor, goal, trial.horizon))?;
     }
     Ok(())
 }
 
 // A trial on a floor, with up to `most` constraints; with none where that is 0.
-pub fn make_trial<F: Floor, C: Generated>(heap: Global, numbers: &mut Numbers, floor: &F, most: u8) -> Result<Trial<C>, AllocError> {
+pub fn make_trial<F: Floor, C: Generated>(
+    heap: Global,
+    numbers: &mut Numbers,
+    floor: &F,
+    most: u8,
+) -> Result<Trial<C>, AllocError> {
     let mut trial = Trial {
         tariff: make_tariff::<C>(heap, numbers)?,
-        carts: [make_cart(numbers, floor.places()), make_cart(numbers, floor.places())],
+        carts: [
+            make_cart(numbers, floor.places()),
+            make_cart(numbers, floor.places()),
+        ],
         cart: numbers.below(2),
         horizon: numbers.below(4) + 1,
         constraints: Vec::new(heap),
