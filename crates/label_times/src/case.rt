@@ -67,7 +67,10 @@ fn read_constraints(heap: Global, words: &mut Words<'_>) -> Result<Vec<Constrain
     Ok(constraints)
 }
 
-pub fn read_case<C: Worded>(heap: Global, words: &mut Words<'_>) -> Result<Case<C>, AnyError> {
+pub(crate) fn read_case<C: Worded>(
+    heap: Global,
+    words: &mut Words<'_>,
+) -> Result<Case<C>, AnyError> {
     let tariff = read_tariff::<C>(heap, words)?;
     let carts = [read_cart(words)?];
     words.pass("horizon")?;

@@ -7,7 +7,7 @@ use std::alloc::Global;
 use std::error::AnyError;
 
 // A grid: its width and height, and then its cells.
-pub fn read_grid(heap: Global, words: &mut Words<'_>) -> Result<GridFloor, AnyError> {
+pub(crate) fn read_grid(heap: Global, words: &mut Words<'_>) -> Result<GridFloor, AnyError> {
     let width = words.number::<u8>()? as usize;
     let height = words.number::<u8>()? as usize;
     let mut cells = Vec::new(heap);
@@ -36,7 +36,7 @@ fn lanes_refused(refusal: FloorRefusal) -> AnyError {
 }
 
 // A floor of lanes: the number of its places, the number of its lanes, and then the lanes.
-pub fn read_lanes(words: &mut Words<'_>) -> Result<LaneFloor, AnyError> {
+pub(crate) fn read_lanes(words: &mut Words<'_>) -> Result<LaneFloor, AnyError> {
     let places = words.number::<u16>()?;
     let count = words.number::<u16>()?;
     let mut floor = match LaneFloor::empty(places) {

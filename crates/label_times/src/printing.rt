@@ -32,7 +32,7 @@ fn print_walk(rt: &LibcRuntime, places: &[u8]) -> Result<(), AnyError> {
 }
 
 // Prints the number of labels, and every offer with its walk.
-pub fn print_answer<F: Floor, C: CostKind, B: Constrains>(
+pub(crate) fn print_answer<F: Floor, C: CostKind, B: Constrains>(
     rt: &LibcRuntime,
     query: &Query<'_, F, C, B>,
     rows: &mut [LabelRow<C>],

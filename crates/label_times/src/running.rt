@@ -55,7 +55,7 @@ fn run_on<F: Floor, C: Worded>(
 }
 
 // Runs a case of one kind of cost: how often, then the floor and what follows.
-pub fn run_case<C: Worded>(rt: &LibcRuntime, words: &mut Words<'_>) -> Result<(), AnyError> {
+pub(crate) fn run_case<C: Worded>(rt: &LibcRuntime, words: &mut Words<'_>) -> Result<(), AnyError> {
     let repeats = words.number::<u16>()?;
     match words.word()? {
         "grid" => {

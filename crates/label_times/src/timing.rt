@@ -9,7 +9,7 @@ use std::error::AnyError;
 use std::time::Instant;
 
 // What an answer is, or the words of its refusal.
-pub fn answered<T: Drop>(answer: Result<T, LabelRefusal>) -> Result<T, AnyError> {
+pub(crate) fn answered<T: Drop>(answer: Result<T, LabelRefusal>) -> Result<T, AnyError> {
     match answer {
         Ok(value) => Ok(value),
         Err(LabelRefusal::HorizonTooLong) => Err("the horizon is above 64 ticks".into()),
@@ -37,7 +37,7 @@ fn time_once<F: Floor, C: CostKind, B: Constrains>(
 }
 
 // The best time of several.
-pub fn best_time<F: Floor, C: CostKind, B: Constrains>(
+pub(crate) fn best_time<F: Floor, C: CostKind, B: Constrains>(
     rt: &LibcRuntime,
     query: &Query<'_, F, C, B>,
     rows: &mut [LabelRow<C>],

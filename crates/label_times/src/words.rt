@@ -9,20 +9,20 @@ pub struct Words<'a> {
 }
 
 impl<'a> Words<'a> {
-    pub fn new(text: &'a str) -> Words<'a> {
+    pub(crate) fn new(text: &'a str) -> Words<'a> {
         Words {
             rest: text.split_whitespace(),
         }
     }
 
-    pub fn word(&mut self) -> Result<&'a str, AnyError> {
+    pub(crate) fn word(&mut self) -> Result<&'a str, AnyError> {
         match self.rest.next() {
             Some(word) => Ok(word),
             None => Err("the case ends early".into()),
         }
     }
 
-    pub fn number<N: FromStr>(&mut self) -> Result<N, AnyError>
+    pub(crate) fn number<N: FromStr>(&mut self) -> Result<N, AnyError>
     where
         N::Err: Drop,
     {
@@ -33,7 +33,7 @@ impl<'a> Words<'a> {
     }
 
     // Goes past a word that has to stand here.
-    pub fn pass(&mut self, word: &str) -> Result<(), AnyError> {
+    pub(crate) fn pass(&mut self, word: &str) -> Result<(), AnyError> {
         if self.word()? == word {
             Ok(())
         } else {

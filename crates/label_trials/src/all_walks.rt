@@ -45,7 +45,7 @@ fn add_beginnings<F: Floor, C: CostKind>(
 }
 
 // Every beginning that keeps the constraints, up to the horizon.
-pub fn all_beginnings<F: Floor, C: CostKind>(
+pub(crate) fn all_beginnings<F: Floor, C: CostKind>(
     heap: Global,
     query: &Query<'_, F, C, Constraint>,
     start: u8,
@@ -60,7 +60,7 @@ pub fn all_beginnings<F: Floor, C: CostKind>(
 }
 
 // The walks among them: those that end at the goal and may stand there to the horizon.
-pub fn walks_of<F: Floor, C: CostKind>(
+pub(crate) fn walks_of<F: Floor, C: CostKind>(
     heap: Global,
     query: &Query<'_, F, C, Constraint>,
     goal: u8,

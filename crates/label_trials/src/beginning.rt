@@ -14,7 +14,7 @@ pub struct Beginning<C> {
 }
 
 // Goes by the moves with the given numbers, as many as `count`, if each is there.
-pub fn follow<F: Floor, C: CostKind>(
+pub(crate) fn follow<F: Floor, C: CostKind>(
     query: &Query<'_, F, C, Constraint>,
     start: u8,
     numbers: [u8; 4],
@@ -73,7 +73,7 @@ fn breaks<C: CostKind>(
 }
 
 // Whether a beginning keeps every constraint, where the cart stands still from its last move to the tick `last`.
-pub fn keeps<C: CostKind>(
+pub(crate) fn keeps<C: CostKind>(
     beginning: &Beginning<C>,
     cart: u8,
     last: u8,

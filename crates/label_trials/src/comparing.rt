@@ -121,7 +121,7 @@ fn offers_agree<F: Floor, C: CostKind>(
 }
 
 // The number of offers, if the label search and the search that tries every walk agree: in the number of labels and in all offers.
-pub fn compare<F: Floor, C: CostKind>(
+pub(crate) fn compare<F: Floor, C: CostKind>(
     heap: Global,
     query: &Query<'_, F, C, Constraint>,
     cart: Cart,

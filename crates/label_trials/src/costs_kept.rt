@@ -3,7 +3,7 @@ use costs::CostKind;
 use std::alloc::AllocError;
 use std::alloc::Global;
 
-pub fn same_cost<C: CostKind>(a: C, b: C) -> bool {
+pub(crate) fn same_cost<C: CostKind>(a: C, b: C) -> bool {
     a.at_most(b) && b.at_most(a)
 }
 
@@ -17,7 +17,7 @@ fn is_dominated<C: CostKind>(beginnings: &[Beginning<C>], cost: C) -> bool {
     false
 }
 
-pub fn contains<C: CostKind>(costs: &[C], cost: C) -> bool {
+pub(crate) fn contains<C: CostKind>(costs: &[C], cost: C) -> bool {
     for other in costs {
         if same_cost(*other, cost) {
             return true;
@@ -27,7 +27,7 @@ pub fn contains<C: CostKind>(costs: &[C], cost: C) -> bool {
 }
 
 // The costs of beginnings that no other dominates, each once, in no order.
-pub fn undominated<C: CostKind>(
+pub(crate) fn undominated<C: CostKind>(
     heap: Global,
     beginnings: &[Beginning<C>],
 ) -> Result<Vec<C>, AllocError> {

@@ -9,7 +9,7 @@ use std::error::AnyError;
 pub const LINES: u8 = 3;
 
 // A grid of up to 3 by 2 cells, some of them blocked.
-pub fn make_grid(heap: Global, numbers: &mut Numbers) -> Result<GridFloor, AnyError> {
+pub(crate) fn make_grid(heap: Global, numbers: &mut Numbers) -> Result<GridFloor, AnyError> {
     let width = numbers.below(3) as usize + 1;
     let height = numbers.below(2) as usize + 1;
     let mut cells = Vec::new(heap);
@@ -24,7 +24,7 @@ pub fn make_grid(heap: Global, numbers: &mut Numbers) -> Result<GridFloor, AnyEr
 }
 
 // A floor of 2 to 5 places with up to 3 lanes from each, which may be waits and may lead to one place twice.
-pub fn make_lanes(numbers: &mut Numbers) -> Result<LaneFloor, AnyError> {
+pub(crate) fn make_lanes(numbers: &mut Numbers) -> Result<LaneFloor, AnyError> {
     let places = numbers.below(4) + 2;
     let Ok(mut floor) = LaneFloor::empty(places as u16) else {
         return Err("a floor is refused".into());

@@ -7,12 +7,12 @@ pub struct Numbers {
 }
 
 impl Numbers {
-    pub fn new(seed: u64) -> Numbers {
+    pub(crate) fn new(seed: u64) -> Numbers {
         Numbers { state: seed }
     }
 
     // A number below `n`, or 0 where nothing is.
-    pub fn below(&mut self, n: u8) -> u8
+    pub(crate) fn below(&mut self, n: u8) -> u8
         ensures { λ r. ⌜ r ≤ n - 1 ⌝ }
     {
         self.state = self.state

@@ -69,7 +69,11 @@ fn run_numbered<C: Generated>(
 }
 
 // Runs all trials of a kind of cost with at most so many constraints, prints how many agree and how many offers those have, and says how many agree.
-pub fn run_setting<C: Generated>(rt: &LibcRuntime, name: &str, most: u8) -> Result<u16, AnyError> {
+pub(crate) fn run_setting<C: Generated>(
+    rt: &LibcRuntime,
+    name: &str,
+    most: u8,
+) -> Result<u16, AnyError> {
     let heap = rt.alloc();
     let mut numbers = Numbers::new(1);
     let mut rows = make_rows::<C>(heap)?;

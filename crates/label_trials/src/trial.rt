@@ -19,7 +19,7 @@ pub struct Trial<C: Drop> {
 
 impl<C: Drop> Trial<C> {
     // The cart that is searched for.
-    pub fn searched(&self) -> Cart {
+    pub(crate) fn searched(&self) -> Cart {
         if self.cart == 0 {
             self.carts[0]
         } else {
@@ -90,7 +90,7 @@ fn add_constraints<F: Floor, C: Generated>(
 }
 
 // A trial on a floor, with up to `most` constraints; with none where that is 0.
-pub fn make_trial<F: Floor, C: Generated>(
+pub(crate) fn make_trial<F: Floor, C: Generated>(
     heap: Global,
     numbers: &mut Numbers,
     floor: &F,

@@ -1,8 +1,5 @@
 ghost use mathlib.Core.Path.{_≡_};
 ghost use Rattle.prices.specs.CostLines.{cost-line, CostLarge, both-read};
-use digits::split_once;
-use digits::ReadFault;
-use digits::read_number;
 use crate::priced::Priced;
 use costs::Pair;
 use costs::PairKind;
@@ -13,6 +10,9 @@ use costs::TotalText;
 use costs::Worst;
 use costs::WorstKind;
 use costs::WorstText;
+use digits::ReadFault;
+use digits::read_number;
+use digits::split_once;
 
 // Both numbers, if both are read. That one is not a number comes before that one is too large.
 fn both(a: Result<u32, ReadFault>, b: Result<u32, ReadFault>) -> Result<(u32, u32), ReadFault>

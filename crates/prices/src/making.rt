@@ -51,7 +51,7 @@ fn make_page<C: Priced>(input: &[u8], heap: Global) -> Result<Vec<u8>, Stop>
 }
 
 // What is printed for a price list.
-pub fn answer_list<C: Priced>(input: &[u8], heap: Global) -> Result<Answer, AllocError>
+pub(crate) fn answer_list<C: Priced>(input: &[u8], heap: Global) -> Result<Answer, AllocError>
     ensures { λ r. ⌜ made r (λ a. Answers (C·Priced .line) (C·Priced .large) (C·Text .text) (C·CostKind .kind) (now (input .entry)) (output a)) ⌝ }
 {
     match make_page::<C>(input, heap) {

@@ -33,7 +33,7 @@ fn tally(count: usize, read: usize, heap: Global) -> Result<String, AllocError>
 }
 
 // The page for the rows that are kept of `read` costs.
-pub fn write_page<C: CostKind>(
+pub(crate) fn write_page<C: CostKind>(
     rows: &[Row<C>],
     read: usize,
     heap: Global,

@@ -1,8 +1,8 @@
 ghost use mathlib.Core.List.{List};
 ghost use Prim.Native.Nat.{ℕ};
 ghost use Rattle.prices.specs.Lines.{Lines, LineRead};
-use digits::ReadFault;
 use costs::CostKind;
+use digits::ReadFault;
 
 // Costs that stand in price lists, one on a line.
 pub trait Priced: CostKind {

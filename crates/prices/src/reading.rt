@@ -1,15 +1,15 @@
 ghost use Rattle.prices.specs.PriceLists.{ListRead};
-use digits::split_once;
 use crate::priced::Priced;
 use crate::refusal::Fault;
 use crate::refusal::Refusal;
 use crate::refusal::Stop;
 use crate::refusal::StopFromRefused;
+use digits::split_once;
 use fronts::Row;
 use std::alloc::Global;
 
 // The costs that a price list says, in its order. Their tags say nothing.
-pub fn read_list<C: Priced>(input: &[u8], heap: Global) -> Result<Vec<Row<C>>, Stop>
+pub(crate) fn read_list<C: Priced>(input: &[u8], heap: Global) -> Result<Vec<Row<C>>, Stop>
     ensures { λ r. ⌜ ListRead (C·Priced .line) (C·Priced .large) (now (input .entry)) r ⌝ }
 {
     let mut rows = Vec::new(heap);

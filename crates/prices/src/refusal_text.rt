@@ -2,9 +2,9 @@ ghost use mathlib.Core.Path.{_≡_};
 ghost use Rattle.std.specs.Of.String.{string-bytes};
 ghost use Rattle.std.specs.Vec.{made};
 ghost use Rattle.prices.specs.Refusals.{fault-text, refusal-text};
-use digits::ReadFault;
 use crate::refusal::Fault;
 use crate::refusal::Refusal;
+use digits::ReadFault;
 use std::alloc::AllocError;
 use std::alloc::Global;
 
@@ -24,7 +24,7 @@ impl Fault {
 
 impl Refusal {
     // The refusal in one line.
-    pub fn text(&self, heap: Global) -> Result<String, AllocError>
+    pub(crate) fn text(&self, heap: Global) -> Result<String, AllocError>
         ensures { λ r. ⌜ made r (λ s. string-bytes s ≡ refusal-text (now (self .entry))) ⌝ }
     {
         let line = self.line;

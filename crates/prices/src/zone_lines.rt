@@ -1,9 +1,9 @@
 ghost use Rattle.prices.specs.ZoneLines.{HexRead, zones-line, none-large};
-use digits::ReadFault;
 use crate::priced::Priced;
 use costs::Zones;
 use costs::ZonesKind;
 use costs::ZonesText;
+use digits::ReadFault;
 
 // The value of a digit to the base 16, in lower case.
 fn hex_value(byte: u8) -> Option<u64>

@@ -40,7 +40,7 @@ fn read_body(
 }
 
 // What all records say, or the first line that is not read; no table is written.
-pub fn read_records(bytes: &[u8], rooms: Rooms) -> Result<Reading, SiteRefusal>
+pub(crate) fn read_records(bytes: &[u8], rooms: Rooms) -> Result<Reading, SiteRefusal>
     requires { ⌜ length (now bytes) ≤ 16384 ⌝ }
     ensures { λ r. ⌜ RecordsRead rooms (now (bytes .entry)) r ⌝ }
 {

@@ -41,7 +41,7 @@ fn read_places(bytes: &[u8]) -> Result<(LaneFloor, usize), SiteFault>
 }
 
 // What the first two records say, and where the third begins.
-pub fn read_head(bytes: &[u8]) -> Result<(Reading, usize), SiteRefusal>
+pub(crate) fn read_head(bytes: &[u8]) -> Result<(Reading, usize), SiteRefusal>
     ensures { λ r. ⌜ HeadRead (now (bytes .entry)) r ⌝ }
 {
     let (draft, first) = match read_horizon(bytes) {

@@ -104,7 +104,7 @@ fn read_line(line: &[u8]) -> Option<Record>
 }
 
 // The record at the front of the bytes, and how many bytes long it is.
-pub fn first_record(bytes: &[u8]) -> Option<(Record, usize)>
+pub(crate) fn first_record(bytes: &[u8]) -> Option<(Record, usize)>
     ensures { λ r. ⌜ ReadFirst (now (bytes .entry)) r ⌝ }
 {
     let Some((line, below)) = split_once(bytes, b'\n') else {

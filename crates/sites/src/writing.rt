@@ -73,7 +73,7 @@ fn write_record(
 }
 
 // Writes the lanes and the tariff lines of a site that was read.
-pub fn write_rows(bytes: &[u8], lanes: &mut [LaneRow], tariff: &mut [Pair<Total, Worst>])
+pub(crate) fn write_rows(bytes: &[u8], lanes: &mut [LaneRow], tariff: &mut [Pair<Total, Worst>])
     requires { ⌜ Writable (now bytes) (length (now lanes)) (length (now tariff)) ⌝ }
     ensures lanes { λ _. ⌜ ((rs : List Record) → RowsWritten lanes-in rs (now (bytes .entry)) (now (lanes .entry)) (now (lanes .exit))) ⌝ }
     ensures tariff { λ _. ⌜ ((rs : List Record) → RowsWritten tariff-in rs (now (bytes .entry)) (now (tariff .entry)) (now (tariff .exit))) ⌝ }

@@ -18,7 +18,7 @@ const CART: u8 = 5;
 
 impl Reading {
     // One record more, if it may follow, has its rows, and is not refused by its call.
-    pub fn take(self, record: Record, rooms: Rooms) -> Result<Reading, SiteFault>
+    pub(crate) fn take(self, record: Record, rooms: Rooms) -> Result<Reading, SiteFault>
         ensures { λ r. ⌜ TookNext self rooms «record» r ⌝ }
     {
         match record {
