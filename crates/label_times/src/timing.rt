@@ -32,7 +32,7 @@ fn time_once<F: Floor, C: CostKind, B: Constrains>(
     answered(answer)?;
     match u64::try_from(spent.as_nanos()) {
         Ok(nanoseconds) => Ok(nanoseconds),
-        Err(_) => Err("the clock ran away".into()),
+        Err(_) => Err("a time is above 64 bits of nanoseconds".into()),
     }
 }
 
