@@ -91,8 +91,8 @@ module _ {C : Type 0} where
       let ls = shown (take n rs) in
       let short : i ≤ length ls = omega (arith, length-shown (take n rs), length-take-le n rs (omega arith)) in
       sym (ap (λ l. last-cost k None (drop i l)) (ap shown (take-more rs n r lt) ∙ shown-push (take n rs) x)
-        ∙ ap (last-cost k None) (drop-append-le i ls (shown-row ls x ∷ []) short)
-        ∙ last-push k None (drop i ls) (shown-row ls x))
+      ∙ ap (last-cost k None) (drop-append-le i ls (shown-row ls x ∷ []) short)
+      ∙ last-push k None (drop i ls) (shown-row ls x))
 
   pub last-some : (k : Kind C) (rs : List (LabelRow C)) (n i : ℕ) (r : LabelRow C) → i < n → n ≤ length rs → Some (getD rs (n - 1) r .cost) ≡ last-cost k None (drop i (shown (take n rs)))
   last-some k rs n i r lt le =
