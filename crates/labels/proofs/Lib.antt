@@ -3,6 +3,7 @@ pub mod Showing
 pub mod Seeking
 pub mod Parts
 pub mod Indexing
+pub mod Chaining
 pub mod Moving
 pub mod Filling
 pub mod Tabling

@@ -5,6 +5,13 @@ pub struct Inbound {
     pub line: u16,
 }
 
+// A move in the chain of the moves that reach its place: `next` is the number of the one after it, counted from 1, or 0 where there is none.
+#[derive(Clone, Copy)]
+pub struct Link {
+    pub entry: Inbound,
+    pub next: u16,
+}
+
 // The moves of a floor by the place reached: those that reach place `p` stand from `begins[p]` to `begins[p + 1]`.
 #[derive(Drop)]
 pub struct Index {
