@@ -1,0 +1,12 @@
+pub mod Picking
+pub mod Showing
+pub mod Seeking
+pub mod Parts
+pub mod Indexing
+pub mod Moving
+pub mod Filling
+pub mod Tabling
+pub mod Offering
+pub mod Tracing
+pub mod Arriving
+pub mod Answering

@@ -1,0 +1,26 @@
+mod allowed;
+mod calls;
+mod cell;
+mod cells;
+mod constraints;
+mod inbound;
+mod index;
+mod landing;
+mod landings;
+mod layer;
+mod moves;
+mod offers;
+mod query;
+mod refusal;
+mod row;
+mod rows;
+mod sought;
+mod tables;
+mod walks;
+
+pub use calls::count_labels;
+pub use calls::count_offers;
+pub use calls::take_offer;
+pub use query::Query;
+pub use refusal::LabelRefusal;
+pub use row::LabelRow;
