@@ -1,1 +1,2 @@
 pub mod Carts
+pub mod Drafts

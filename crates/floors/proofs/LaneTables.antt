@@ -46,7 +46,7 @@ rows-from rows p = kept-by (λ r. eqb (r .from) p) rows
 abbrev moves-from : List LaneRow → ℕ → List Move
 moves-from rows p = map row-move (rows-from rows p)
 
-none-from : (a n : ℕ) → map (moves-from []) (counting a n) ≡ replicate n []
+pub none-from : (a n : ℕ) → map (moves-from []) (counting a n) ≡ replicate n []
 none-from a zero = refl
 none-from a (suc n) = ap (λ ms. [] ∷ ms) (none-from (a + 1) n)
 
@@ -61,7 +61,7 @@ from-elsewhere rows r p ne =
     let one : rows-from (r ∷ []) p ≡ [] = cond-false _ _ _ (ne-eqb (r .from) p (λ e. ne (sym e))) in
     ap (map row-move) (kept-by-append (λ r. eqb (r .from) p) rows (r ∷ []) ∙ ap (λ rs. rows-from rows p ++ rs) one ∙ append-nil (rows-from rows p))
 
-lanes-more : (n : ℕ) (rows : List LaneRow) (r : LaneRow) → r .from < n → lane-moves n (rows ++ r ∷ []) ≡ extended (lane-moves n rows) (r .from) (row-move r ∷ [])
+pub lanes-more : (n : ℕ) (rows : List LaneRow) (r : LaneRow) → r .from < n → lane-moves n (rows ++ r ∷ []) ≡ extended (lane-moves n rows) (r .from) (row-move r ∷ [])
 lanes-more n rows r h =
     let len : length (lane-moves n rows) ≡ n = length-map-counting (moves-from rows) 0 n in
     let len′ : length (lane-moves n (rows ++ r ∷ [])) ≡ n = length-map-counting (moves-from (rows ++ r ∷ [])) 0 n in
@@ -91,11 +91,11 @@ fits-to moves r h = ltb-true _ _ (and-parts _ _ (and-parts _ _ h .1) .0)
 
 -- what a refusal that is there or not tells of its test
 
-passed : {X : Type 0} (b : Bool) (x : X) → none ≡ cond b none (some x) → b ≡ true
+pub passed : {X : Type 0} (b : Bool) (x : X) → none ≡ cond b none (some x) → b ≡ true
 passed true x e = refl
 passed false x e = let z : _≡_ {A = ℕ} 0 1 = cc in absurd (omega arith)
 
-failed : {X : Type 0} (b : Bool) (x y : X) → some y ≡ cond b none (some x) → (b ≡ false) × (y ≡ x)
+pub failed : {X : Type 0} (b : Bool) (x y : X) → some y ≡ cond b none (some x) → (b ≡ false) × (y ≡ x)
 failed true x y e = let z : _≡_ {A = ℕ} 0 1 = cc in absurd (omega arith)
 failed false x y e = (refl, cc)
 

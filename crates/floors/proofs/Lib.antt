@@ -1,4 +1,4 @@
 mod Cells
-mod LaneTables
+pub mod LaneTables
 mod Shut
 mod Tables

@@ -1,7 +1,7 @@
 mod floor;
 mod grid_floor;
-mod lane_floor;
-mod lane_row;
+pub mod lane_floor;
+pub mod lane_row;
 mod move_list;
 mod move_table;
 pub mod refusal;

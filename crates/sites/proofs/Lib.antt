@@ -1,0 +1,13 @@
+mod Texts
+mod LineReads
+mod LineRecords
+mod Outcomes
+mod Printing
+mod Promising
+mod Keeping
+mod CartRooms
+mod NextRecord
+mod Reaching
+mod Filling
+mod SecondPass
+mod RoomsKept
