@@ -15,7 +15,7 @@ use Rattle.rules.specs.Kinds.{Laws}
 use Rattle.rules.specs.Instances.{goal-of}
 use Rattle.rules.specs.Offers.{Label, joined-lists, total-length, may-stand, stood, kept, arrivals}
 use Rattle.rules.proofs.Fronts.{front-short}
-use Rattle.rules.proofs.Obeying.{stands-at, stands-from}
+use Rattle.rules.proofs.Satisfying.{stands-at, stands-from}
 use Rattle.rules.proofs.Offers.{arriving}
 use Rattle.labels.specs.declared.landing.Landing.{Landing}
 use Rattle.labels.specs.declared.row.LabelRow.{LabelRow}

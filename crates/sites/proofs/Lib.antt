@@ -3,7 +3,7 @@ mod LineReads
 mod LineRecords
 mod Outcomes
 mod Printing
-mod Promising
+pub mod Promising
 mod Keeping
 mod CartRooms
 mod NextRecord

@@ -1,0 +1,4 @@
+use Rattle.offer_pages.proofs.fault.Fault.text.Needs as need
+
+pub returns : need.returns
+returns c = ?
