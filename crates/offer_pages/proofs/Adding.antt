@@ -4,7 +4,6 @@ use mathlib.Core.Path.{_≡_, refl, sym, ap, subst, _∙_}
 use mathlib.Core.List.{List, [], _∷_, _++_, map}
 use Prim.Native.Nat.{ℕ, zero, suc, _+_, _<_, _≤_}
 use native.Mathlib.Omega.{arith}
-use lib.Chars.{codes}
 use lib.ListN.{length, getD, take}
 use Rattle.std.specs.Iters.{counting}
 use Rattle.std.specs.Joined.{joined}
@@ -16,7 +15,7 @@ use Rattle.std.specs.declared.result.Result.the-variants.{Ok, Err}
 use Rattle.std.specs.Options.{mapped}
 use Rattle.std.specs.shelf.Maps.{nth}
 use Rattle.std.proofs.shelf.Counted.{map-counting-more}
-use Rattle.std.proofs.shelf.Lists.{append-assoc, append-nil, joined-more, map-id, take-all, take-more}
+use Rattle.std.proofs.shelf.Lists.{append-assoc, joined-more, map-id, take-all, take-more}
 use Rattle.std.proofs.shelf.Maps.{nth-getD}
 use Rattle.labels.specs.declared.refusal.LabelRefusal.{LabelRefusal}
 use Rattle.labels.specs.Answers.{told, cost-of, walked, walk-of}
@@ -25,7 +24,7 @@ use Rattle.rules.specs.Offers.{Label}
 use Rattle.sites.specs.Records.{numbers-text}
 use Rattle.offer_pages.specs.Carts.{option-text, CartAdded, PageAdded}
 use Rattle.offer_pages.specs.Conditions.{Checked, FailsAt}
-use Rattle.offer_pages.specs.Texts.{number-text, offer-text, cost-text, places-text}
+use Rattle.offer_pages.specs.Texts.{heading-text, number-text, offer-text, cost-text, places-text, cart-text}
 use Rattle.offer_pages.specs.declared.fault.Stop.{Stop}
 use Rattle.offer_pages.specs.declared.fault.Stop.the-variants.{Memory, Refused}
 
@@ -58,11 +57,6 @@ pub cart-grows : (part : ℕ → List ℕ) (was after : List ℕ) (n : ℕ) → 
 cart-grows part was after n e f =
     f ∙ ap (λ t. t ++ part n) e ∙ joined-more part [] (counting 0 n) n ∙ ap (joined part) (sym (counting-push n))
 
--- four numbers in a line
-pub four-numbers : (mark : List ℕ) (a b c d : ℕ) →
-    mark ++ (32 ∷ (decimal a ++ (32 ∷ (decimal b ++ (32 ∷ (decimal c ++ (32 ∷ (decimal d ++ (10 ∷ []))))))))) ≡ mark ++ (numbers-text (a ∷ (b ∷ (c ∷ (d ∷ [])))) ++ (10 ∷ []))
-four-numbers mark a b c d = simp (append-assoc, append-nil)
-
 -- an offer's cost and then its places
 pub offer-added : {C : Type 0} (text : C → List ℕ) (o : Option (Label C)) (cost : C) (start was mid after ps : List ℕ) → Some cost ≡ mapped (λ l. l .cost) o → ps ≡ walked o start → mid ≡ was ++ cost-text text cost → after ≡ mid ++ places-text ps → after ≡ was ++ option-text text o
 offer-added text None cost start was mid after ps e p f g = let z : _≡_ {A = ℕ} 0 1 = cc in absurd (omega arith)
@@ -94,3 +88,8 @@ module _ {C : Type 0} (text : C → List ℕ) (i : Instance C) where
 -- three parts, one after another
 pub three-parts : (start a b c w x y : List ℕ) → w ≡ start ++ a → x ≡ w ++ b → y ≡ x ++ c → y ≡ start ++ (a ++ (b ++ c))
 three-parts start a b c w x y d e f = f ∙ ap (λ t. t ++ c) (e ∙ ap (λ t. t ++ b) d) ∙ append-assoc (start ++ a) b c ∙ append-assoc start a (b ++ c)
+
+-- a cart's heading and then all its offers
+pub cart-whole : {C : Type 0} (text : C → List ℕ) (cart count : ℕ) (os : List (Label C)) (start headed after line : List ℕ) → count ≡ length os → line ≡ heading-text cart count → headed ≡ start ++ line → after ≡ headed ++ joined (offer-text text) os → after ≡ start ++ cart-text text cart os
+cart-whole text cart count os start headed after line n l e f =
+    f ∙ ap (λ t. t ++ joined (offer-text text) os) (e ∙ ap (λ t. start ++ t) (l ∙ ap (heading-text cart) n)) ∙ append-assoc start (heading-text cart (length os)) (joined (offer-text text) os)

@@ -4,8 +4,9 @@ use mathlib.Core.Path.{_≡_, refl, sym, ap, subst, _∙_}
 use mathlib.Core.List.{List}
 use mathlib.Core.Logic.{_⊎_}
 use Prim.Native.Nat.{ℕ, _<_, _≤_}
+use native.Mathlib.Omega.{arith}
 use lib.ListN.{length, take, drop}
-use Rattle.std.proofs.shelf.Lists.{take-at}
+use Rattle.std.proofs.shelf.Lists.{length-append, take-at}
 use Rattle.std.specs.declared.alloc.Global.{Global}
 use Rattle.std.specs.declared.vec.Vec.{Vec}
 use Rattle.std.specs.declared.result.Result.{Result}
@@ -26,6 +27,9 @@ use Rattle.offer_pages.specs.Views.{Cost}
 -- the first rows of a table are those that were filled
 pub first-rows : {X : Type 0} (rows was after : List X) (n : ℕ) → after ≡ filled rows was → n ≡ length rows → take n after ≡ rows
 first-rows rows was after n e l = ap (take n) e ∙ take-at rows (drop (length rows) was) n (sym l)
+
+pub rows-within : {X : Type 0} (rows was after : List X) → after ≡ filled rows was → length rows ≤ length after
+rows-within rows was after e = omega (arith, ap length e, length-append rows (drop (length rows) was))
 
 pub same-rooms : (t : Tables) → length (t .lanes) ≡ 1024 → length (t .tariff) ≡ 256 → length (t .carts) ≡ 6 → rooms-of t ≡ site-rooms
 same-rooms t a b c = λ s. record { lanes = a s; tariff = b s; carts = c s }

@@ -64,7 +64,9 @@ pub fn offer_page(bytes: &[u8], heap: Global) -> Result<Vec<u8>, AllocError>
 {
     match make_page(bytes, heap) {
         Ok(page) => Ok(page),
-        Err(Stop::Refused(fault)) => Ok(fault.text(heap)?.into_bytes()),
-        Err(Stop::Memory) => Err(AllocError),
+        Err(stop) => match stop {
+            Stop::Refused(fault) => Ok(fault.text(heap)?.into_bytes()),
+            Stop::Memory => Err(AllocError),
+        },
     }
 }

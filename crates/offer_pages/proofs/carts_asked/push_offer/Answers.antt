@@ -21,8 +21,14 @@ unreachable-requires g c κs =
     let z : _≡_ {A = ℕ} 0 1 = cc e in
     omega arith
 
-pub unreachable-2-requires : need.unreachable-2-requires
-unreachable-2-requires g c κs = ?
+pub unreachable-requires-in-rest-offer : need.unreachable-requires-in-rest-offer
+unreachable-requires-in-rest-offer g c κs =
+    let a = asked (g .F·Floor .moves) (g .C·CostKind .kind) constraint-of (c .args .query .now) in
+    let o = nth (offers-of a) (c .args .number) in
+    let e = answered _ o _ (c .pre .free) (c .in-Ok .ensures tt .answer) in
+    let was = c .in-rest-offer .is in
+    let gone : mapped (λ l. l .cost) o ≡ None = cc in
+    some-offer (offers-of a) (c .args .number) (c .pre .known) gone
 
 pub returns : need.returns
 returns g c =
