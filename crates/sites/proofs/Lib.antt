@@ -4,7 +4,7 @@ mod LineRecords
 mod RecordLists
 mod Outcomes
 mod Printing
-mod Promising
+pub mod Promising
 mod Keeping
 mod CartRooms
 mod NextRecord
