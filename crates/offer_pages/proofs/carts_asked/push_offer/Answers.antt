@@ -39,5 +39,5 @@ returns g c =
     let same : Some (c .in-Some .cost) ≡ mapped (λ l. l .cost) o = cc in
     made-weaker (c .push-places .result) _ _
     (λ u h. offer-added (g .C·Text .text) o (c .in-Some .cost) (c .args .places .now) (vec-items (c .args .out .now)) (vec-items (c .push-cost .last .out)) _ (c .take-offer .last .places) same
-        (walk-written _ o (c .take-offer .last .places) (c .args .places .now) (c .pre .free) (c .in-Ok .ensures tt .written)) (c .in-Continue-push-cost .ensures tt) h)
+    (walk-written _ o (c .take-offer .last .places) (c .args .places .now) (c .pre .free) (c .in-Ok .ensures tt .written)) (c .in-Continue-push-cost .ensures tt) h)
     (c .push-places .ensures)

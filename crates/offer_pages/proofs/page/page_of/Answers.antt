@@ -28,7 +28,8 @@ write-page-requires g c κs =
         checked = record {
           some-cart = omega (arith, c .if-site-lt1 .left, length-map (c .args .site .now .carts .now) cart-of);
           on-floor = c .if-not-on-floor .ensures tt .0 refl;
-          lines = c .if-not-lines-there .ensures tt .0 refl };
+          lines = c .if-not-lines-there .ensures tt .0 refl;
+        };
       };
       few = c .pre .few;
     }
