@@ -1,7 +1,7 @@
 -- An instance that passed the checks is sound, so the offers of its carts are right.
 -- Assumes nothing.
-use mathlib.Core.Path.{_≡_, _∙_}
-use mathlib.Core.List.{List, []}
+use mathlib.Core.Path.{_∙_}
+use mathlib.Core.List.{[]}
 use Prim.Native.Nat.{ℕ, _<_}
 use lib.ListN.{length}
 use Rattle.std.specs.shelf.Lists.{All}
@@ -9,12 +9,12 @@ use Rattle.std.proofs.shelf.Elements.{all-weaker}
 use Rattle.std.proofs.shelf.Lists.{length-reverse}
 use Rattle.floors.specs.Floors.{FloorBounds}
 use Rattle.rules.specs.Kinds.{Laws}
-use Rattle.rules.specs.Instances.{Instance, Sound, places, cart-count}
+use Rattle.rules.specs.Instances.{Instance, Sound, places}
 use Rattle.rules.specs.Walks.{Walk}
 use Rattle.rules.specs.Offers.{Label, Serves, offers}
 use Rattle.rules.proofs.Offers.{offers-right}
 use Rattle.offer_pages.specs.Conditions.{Checked}
-use Rattle.offer_pages.specs.Rights.{Shows, RightOffers, AllRight}
+use Rattle.offer_pages.specs.Rights.{Shows, AllRight}
 
 module _ {C : Type 0} (i : Instance C) where
   pub sound : Laws (i .kind) → FloorBounds (i .moves) → Checked i → Sound i

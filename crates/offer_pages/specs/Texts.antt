@@ -1,6 +1,6 @@
 -- The lines of a page of offers.
 -- Assumes nothing.
-use mathlib.Core.List.{List, [], _∷_, _++_, reverse}
+use mathlib.Core.List.{List, [], _++_, reverse}
 use Prim.Native.Nat.{ℕ}
 use lib.Chars.{codes}
 use lib.ListN.{length}

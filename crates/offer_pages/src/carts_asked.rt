@@ -31,7 +31,14 @@ use std::alloc::AllocError;
 use std::alloc::Global;
 
 // Adds the offer with a number.
-fn push_offer<F: Floor, C: CostKind>(out: &mut Vec<u8>, query: &Query<'_, F, C, Constraint>, number: u16, rows: &mut [LabelRow<C>], places: &mut [u8], heap: Global) -> Result<(), AllocError>
+fn push_offer<F: Floor, C: CostKind>(
+    out: &mut Vec<u8>,
+    query: &Query<'_, F, C, Constraint>,
+    number: u16,
+    rows: &mut [LabelRow<C>],
+    places: &mut [u8],
+    heap: Global,
+) -> Result<(), AllocError>
     requires free { ⌜ walk-hindrance (asked (F·Floor .moves) (C·CostKind .kind) constraint-of (now query)) (length (now rows)) (length (now places)) ≡ None ⌝ }
     requires known { ⌜ number < length (offers-of (asked (F·Floor .moves) (C·CostKind .kind) constraint-of (now query))) ⌝ }
     ensures { λ r. ⌜ made r (λ _. vec-items (now (out .exit)) ≡ vec-items (now (out .entry)) ++ option-text (C·Text .text) (nth (offers-of (asked (F·Floor .moves) (C·CostKind .kind) constraint-of (now (query .entry)))) number)) ⌝ }
@@ -39,20 +46,32 @@ fn push_offer<F: Floor, C: CostKind>(out: &mut Vec<u8>, query: &Query<'_, F, C, 
     let Ok(offer) = take_offer(query, number, rows, places) else {
         unreachable()
     };
-    let Some(cost) = offer else {
-        unreachable()
-    };
+    let Some(cost) = offer else { unreachable() };
     push_cost(out, cost, heap)?;
     push_places(out, places, heap)
 }
 
 // Adds a cart and its offers, as if it were alone.
-pub fn push_cart<F: Floor, C: CostKind>(out: &mut Vec<u8>, site: &SiteView<'_, F, C>, cart: u8, rows: &mut [LabelRow<C>], places: &mut [u8], heap: Global) -> Result<(), Stop>
+pub fn push_cart<F: Floor, C: CostKind>(
+    out: &mut Vec<u8>,
+    site: &SiteView<'_, F, C>,
+    cart: u8,
+    rows: &mut [LabelRow<C>],
+    places: &mut [u8],
+    heap: Global,
+) -> Result<(), Stop>
     requires ready { ⌜ Ready (meant (F·Floor .moves) (C·CostKind .kind) (now site)) (length (now rows)) (length (now places)) ⌝ }
     requires known { ⌜ cart < cart-count (meant (F·Floor .moves) (C·CostKind .kind) (now site)) ⌝ }
     ensures { λ r. ⌜ CartAdded (C·Text .text) (meant (F·Floor .moves) (C·CostKind .kind) (now (site .entry))) cart (vec-items (now (out .entry))) (vec-items (now (out .exit))) r ⌝ }
 {
-    let query = Query { floor: site.floor, tariff: site.tariff, carts: site.carts, horizon: site.horizon, constraints: &[], cart };
+    let query = Query {
+        floor: site.floor,
+        tariff: site.tariff,
+        carts: site.carts,
+        horizon: site.horizon,
+        constraints: &[],
+        cart,
+    };
     let Ok(count) = count_offers(&query, rows) else {
         return Err(Stop::Refused(Fault::ManyLabels));
     };

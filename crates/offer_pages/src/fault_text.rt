@@ -7,7 +7,13 @@ use std::alloc::AllocError;
 use std::alloc::Global;
 
 // Four numbers in a line.
-fn refusal_line(number: u16, line: u16, carried: u16, row: u16, heap: Global) -> Result<String, AllocError>
+fn refusal_line(
+    number: u16,
+    line: u16,
+    carried: u16,
+    row: u16,
+    heap: Global,
+) -> Result<String, AllocError>
     ensures { λ r. ⌜ made r (λ s. string-bytes s ≡ refusal-line number line carried row) ⌝ }
 {
     format!(heap, "RF {number} {line} {carried} {row}\n")

@@ -24,13 +24,22 @@ fn label_rows<C: CostKind>(heap: Global) -> Result<Vec<LabelRow<C>>, AllocError>
 {
     let mut rows = Vec::new(heap);
     for _n in 0..2048u16 {
-        rows.push(LabelRow { cost: C::zero(), parent: 0, place: 0 })?;
+        rows.push(LabelRow {
+            cost: C::zero(),
+            parent: 0,
+            place: 0,
+        })?;
     }
     Ok(rows)
 }
 
 // The page of a site that passed the checks.
-fn write_page<F: Floor, C: CostKind>(site: &SiteView<'_, F, C>, rows: &mut [LabelRow<C>], places: &mut [u8], heap: Global) -> Result<Vec<u8>, Stop>
+fn write_page<F: Floor, C: CostKind>(
+    site: &SiteView<'_, F, C>,
+    rows: &mut [LabelRow<C>],
+    places: &mut [u8],
+    heap: Global,
+) -> Result<Vec<u8>, Stop>
     requires ready { ⌜ Ready (meant (F·Floor .moves) (C·CostKind .kind) (now site)) (length (now rows)) (length (now places)) ⌝ }
     requires few { ⌜ length (now (now site .carts)) ≤ 6 ⌝ }
     ensures { λ r. ⌜ PageAdded (C·Text .text) (meant (F·Floor .moves) (C·CostKind .kind) (now (site .entry))) r ⌝ }
@@ -43,7 +52,10 @@ fn write_page<F: Floor, C: CostKind>(site: &SiteView<'_, F, C>, rows: &mut [Labe
 }
 
 // The page of a site, or the first check that fails.
-pub fn page_of<F: Floor, C: CostKind>(site: &SiteView<'_, F, C>, heap: Global) -> Result<Vec<u8>, Stop>
+pub fn page_of<F: Floor, C: CostKind>(
+    site: &SiteView<'_, F, C>,
+    heap: Global,
+) -> Result<Vec<u8>, Stop>
     requires ticks { ⌜ now site .horizon ≤ 64 ⌝ }
     requires few { ⌜ length (now (now site .carts)) ≤ 6 ⌝ }
     ensures { λ r. ⌜ PageAdded (C·Text .text) (meant (F·Floor .moves) (C·CostKind .kind) (now (site .entry))) r ⌝ }

@@ -30,7 +30,13 @@ use std::alloc::Global;
 pub const MOST_BYTES: usize = 16_384;
 
 // The page of the site that the bytes say, which is read into the tables.
-fn page_in(bytes: &[u8], lanes: &mut [LaneRow], tariff: &mut [Pair<Total, Worst>], carts: &mut [Cart], heap: Global) -> Result<Vec<u8>, Stop>
+fn page_in(
+    bytes: &[u8],
+    lanes: &mut [LaneRow],
+    tariff: &mut [Pair<Total, Worst>],
+    carts: &mut [Cart],
+    heap: Global,
+) -> Result<Vec<u8>, Stop>
     requires lanes { ⌜ length (now lanes) ≡ 1024 ⌝ }
     requires tariff { ⌜ length (now tariff) ≡ 256 ⌝ }
     requires carts { ⌜ length (now carts) ≡ 6 ⌝ }
@@ -42,7 +48,12 @@ fn page_in(bytes: &[u8], lanes: &mut [LaneRow], tariff: &mut [Pair<Total, Worst>
     };
     let count = site.draft.carts() as usize;
     let horizon = site.draft.horizon();
-    let view = SiteView { floor: &site.floor, tariff: &tariff[0..site.tariff], carts: &carts[0..count], horizon };
+    let view = SiteView {
+        floor: &site.floor,
+        tariff: &tariff[0..site.tariff],
+        carts: &carts[0..count],
+        horizon,
+    };
     page_of(&view, heap)
 }
 
@@ -50,10 +61,23 @@ fn page_in(bytes: &[u8], lanes: &mut [LaneRow], tariff: &mut [Pair<Total, Worst>
 fn make_page(bytes: &[u8], heap: Global) -> Result<Vec<u8>, Stop>
     ensures { λ r. ⌜ PageMade (now (bytes .entry)) r ⌝ }
 {
-    let mut lanes = vec![in heap; LaneRow { from: 0, to: 0, line: 0 }; 1024]?;
-    let mut tariff = vec![in heap; Pair { first: Total { value: 0 }, second: Worst { value: 0 } }; 256]?;
+    let mut lanes = vec![in heap; LaneRow {
+        from: 0,
+        to: 0,
+        line: 0
+    }; 1024]?;
+    let mut tariff = vec![in heap; Pair {
+        first: Total { value: 0 },
+        second: Worst { value: 0 }
+    }; 256]?;
     let mut carts = vec![in heap; Cart { start: 0, goal: 0 }; 6]?;
-    page_in(bytes, lanes.as_mut_slice(), tariff.as_mut_slice(), carts.as_mut_slice(), heap)
+    page_in(
+        bytes,
+        lanes.as_mut_slice(),
+        tariff.as_mut_slice(),
+        carts.as_mut_slice(),
+        heap,
+    )
 }
 
 // What is printed for a site's text: for each cart, as if it were alone, every cost of its walks that none undercuts, each with a walk of it;

@@ -5,7 +5,6 @@ use offer_pages::offer_page;
 use std::io;
 use std::io::Read;
 use std::io::Write;
-
 ghost use Prim.Native.Nat.{_≤_};
 ghost use lib.ListN.{length};
 

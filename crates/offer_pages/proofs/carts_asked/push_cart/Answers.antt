@@ -62,8 +62,9 @@ pub returns : need.returns
 returns g c =
     let i = meant (g .F·Floor .moves) (g .C·CostKind .kind) (c .args .site .now) in
     let os = offers i (c .args .cart) [] in
-    let k = counted i (c .args .cart) (length (c .args .rows .now)) (length (c .args .places .now)) (c .pre .ready) (c .pre .known) (c .in-Ok .count) (length os) (c .in-Ok .ensures tt .counted) in
-    (k .fits,
+    let k = counted i (c .args .cart) (length (c .args .rows .now)) (length (c .args .places .now)) (c .pre .ready) (c .pre .known) (c .in-Ok .count) (length os) (c .in-Ok .ensures tt .counted) in (
+      k .fits,
       cart-whole (g .C·Text .text) (c .args .cart) (c .in-Ok .count) os (vec-items (c .args .out .now)) (vec-items (c .extend-from-slice .last .self)) (vec-items (c .loop-number .out)) (c .as-bytes .result .now) (k .count)
-      (c .as-bytes .ensures .value ∙ c .in-Continue-line .ensures tt) (c .in-Continue-extend-from-slice .ensures tt .items)
-      (grown (offer-text (g .C·Text .text)) os (vec-items (c .extend-from-slice .last .self)) (vec-items (c .loop-number .out)) (c .loop-number .number) (omega (arith, c .loop-number-test .left, k .count)) (c .loop-number .inv)))
+          (c .as-bytes .ensures .value ∙ c .in-Continue-line .ensures tt) (c .in-Continue-extend-from-slice .ensures tt .items)
+          (grown (offer-text (g .C·Text .text)) os (vec-items (c .extend-from-slice .last .self)) (vec-items (c .loop-number .out)) (c .loop-number .number) (omega (arith, c .loop-number-test .left, k .count)) (c .loop-number .inv)),
+    )

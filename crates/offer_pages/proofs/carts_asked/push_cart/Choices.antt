@@ -4,7 +4,7 @@ use lib.ListN.{take}
 use Rattle.std.specs.Joined.{joined}
 use Rattle.std.specs.Of.Vec.{vec-items}
 use Rattle.rules.specs.Offers.{offers}
-use Rattle.offer_pages.specs.Texts.{heading-text, offer-text}
+use Rattle.offer_pages.specs.Texts.{offer-text}
 use Rattle.offer_pages.specs.Views.{meant}
 use Rattle.offer_pages.proofs.carts_asked.push_cart.Given as given
 

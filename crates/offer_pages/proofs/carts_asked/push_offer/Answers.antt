@@ -1,12 +1,10 @@
-use mathlib.Core.Path.{_≡_, sym, ap, _∙_}
+use mathlib.Core.Path.{_≡_, ap}
 use Prim.Native.Nat.{ℕ}
 use native.Mathlib.Omega.{arith}
-use lib.ListN.{length}
 use Rattle.std.specs.Of.Vec.{vec-items}
 use Rattle.std.specs.shelf.Maps.{nth}
-use Rattle.std.specs.declared.option.Option.{Option}
 use Rattle.std.specs.declared.option.Option.the-variants.{Some, None}
-use Rattle.std.specs.declared.result.Result.the-variants.{Ok, Err}
+use Rattle.std.specs.declared.result.Result.the-variants.{Ok}
 use Rattle.std.specs.Options.{mapped}
 use Rattle.std.proofs.shelf.Results.{made-weaker}
 use Rattle.carts.specs.Carts.{constraint-of}
@@ -39,5 +37,5 @@ returns g c =
     let same : Some (c .in-Some .cost) ≡ mapped (λ l. l .cost) o = cc in
     made-weaker (c .push-places .result) _ _
     (λ u h. offer-added (g .C·Text .text) o (c .in-Some .cost) (c .args .places .now) (vec-items (c .args .out .now)) (vec-items (c .push-cost .last .out)) _ (c .take-offer .last .places) same
-        (walk-written _ o (c .take-offer .last .places) (c .args .places .now) (c .pre .free) (c .in-Ok .ensures tt .written)) (c .in-Continue-push-cost .ensures tt) h)
+    (walk-written _ o (c .take-offer .last .places) (c .args .places .now) (c .pre .free) (c .in-Ok .ensures tt .written)) (c .in-Continue-push-cost .ensures tt) h)
     (c .push-places .ensures)

@@ -14,7 +14,7 @@ pub returns-then-not-pays-below : need.returns-then-not-pays-below
 returns-then-not-pays-below g c =
     let lines = length (c .args .site .now .tariff .now) in
     decides-no (λ l. fails-at (All (λ (m : Move). m .line < lines)) (g .F·Floor .moves (c .args .site .now .floor .now)) (c .loop-place .place) []
-        (omega (arith, c .places-place-end .ensures, c .loop-place-test .taken)) (λ p. false≢true (c .if-not-pays-below .ensures tt .1 p)) (l .inside))
+    (omega (arith, c .places-place-end .ensures, c .loop-place-test .taken)) (λ p. false≢true (c .if-not-pays-below .ensures tt .1 p)) (l .inside))
 
 pub loop-place-again : need.loop-place-again
 loop-place-again g c =

@@ -1,6 +1,5 @@
-use mathlib.Core.List.{map}
 use Prim.Native.Nat.{_<_}
-use lib.ListN.{length, take}
+use lib.ListN.{take}
 use Rattle.std.specs.shelf.Lists.{All}
 use Rattle.offer_pages.proofs.checks.on_floor.Given as given
 

@@ -1,5 +1,4 @@
-use mathlib.Core.Path.{_≡_, refl, _∙_}
-use Prim.Native.Nat.{suc, _<_}
+use mathlib.Core.Path.{refl, _∙_}
 use native.Mathlib.Omega.{arith}
 use lib.ListN.{length}
 use Rattle.std.proofs.shelf.Lists.{length-map}
@@ -28,7 +27,8 @@ write-page-requires g c κs =
         checked = record {
           some-cart = omega (arith, c .if-site-lt1 .left, length-map (c .args .site .now .carts .now) cart-of);
           on-floor = c .if-not-on-floor .ensures tt .0 refl;
-          lines = c .if-not-lines-there .ensures tt .0 refl };
+          lines = c .if-not-lines-there .ensures tt .0 refl;
+        };
       };
       few = c .pre .few;
     }

@@ -1,6 +1,6 @@
-use mathlib.Core.Path.{_≡_, sym, ap, _∙_}
+use mathlib.Core.Path.{_≡_, ap, _∙_}
 use mathlib.Core.List.{[]}
-use Prim.Native.Nat.{ℕ, _<_, _≤_}
+use Prim.Native.Nat.{_≤_}
 use native.Mathlib.Omega.{arith}
 use borrow.Author.Count.{below-more}
 use lib.ListN.{length}
@@ -39,16 +39,18 @@ returns-in-Break-push-cart g c =
 pub loop-cart-again : need.loop-cart-again
 loop-cart-again g c =
     let i = meant (g .F·Floor .moves) (g .C·CostKind .kind) (c .args .site .now) in
-    let added = c .in-Continue-push-cart .ensures tt in
-    (cart-grows (λ n. cart-text (g .C·Text .text) n (offers i n [])) (vec-items (c .loop-cart .out)) (vec-items (c .push-cart .last .out)) (c .loop-cart .cart) (c .loop-cart .inv .0) (added .1),
-      below-more (λ n. label-count i n [] ≤ 2048) (c .loop-cart .cart) (c .loop-cart .inv .1) (added .0))
+    let added = c .in-Continue-push-cart .ensures tt in (
+      cart-grows (λ n. cart-text (g .C·Text .text) n (offers i n [])) (vec-items (c .loop-cart .out)) (vec-items (c .push-cart .last .out)) (c .loop-cart .cart) (c .loop-cart .inv .0) (added .1),
+      below-more (λ n. label-count i n [] ≤ 2048) (c .loop-cart .cart) (c .loop-cart .inv .1) (added .0),
+    )
 
 pub returns : need.returns
 returns g c =
     let i = meant (g .F·Floor .moves) (g .C·CostKind .kind) (c .args .site .now) in
     let ready = c .pre .ready in
-    let all : c .loop-cart .cart ≡ cart-count i = omega (arith, c .loop-cart-test .left, c .loop-cart .kept .cart-end, length-map (c .args .site .now .carts .now) cart-of) in
-    (ready .checked,
+    let all : c .loop-cart .cart ≡ cart-count i = omega (arith, c .loop-cart-test .left, c .loop-cart .kept .cart-end, length-map (c .args .site .now .carts .now) cart-of) in (
+      ready .checked,
       (λ n known. c .loop-cart .inv .1 n (omega (arith, known, all))),
       all-right i (sound i (g .C·CostKind·met .laws) (g .F·Floor·met .bounds (c .args .site .now .floor .now)) (ready .checked)),
-      c .loop-cart .inv .0 ∙ ap (λ n. joined (λ k. cart-text (g .C·Text .text) k (offers i k [])) (counting 0 n)) all)
+      c .loop-cart .inv .0 ∙ ap (λ n. joined (λ k. cart-text (g .C·Text .text) k (offers i k [])) (counting 0 n)) all,
+    )

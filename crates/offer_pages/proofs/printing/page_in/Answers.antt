@@ -25,7 +25,7 @@ pub part-view-end : need.part-view-end
 part-view-end c =
     let read = c .in-Ok .ensures tt in
     let few : c .in-Ok .site .tariff ≤ length (c .read-site .last .tariff) =
-        omega (arith, read .holds .tariff, rows-within (said (read .records) .tariff) (c .args .tariff .now) (c .read-site .last .tariff) (ap (λ t. t .tariff) (read .written))) in
+    omega (arith, read .holds .tariff, rows-within (said (read .records) .tariff) (c .args .tariff .now) (c .read-site .last .tariff) (ap (λ t. t .tariff) (read .written))) in
     search needs
 
 pub returns : need.returns
@@ -40,14 +40,15 @@ returns c =
     let tariff = first-rows (s .tariff) (c .args .tariff .now) (c .read-site .last .tariff) (site .tariff - 0) (ap (λ t. t .tariff) (read .written)) lines in
     let ticks = c .horizon-horizon .ensures ∙ read .holds .horizon in
     let i : Instance Cost =
-        record {
-          kind = site-kind;
-          moves = table-moves (site .floor .table);
-          tariff = take (site .tariff - 0) (c .read-site .last .tariff);
-          carts = map cart-of (take (c .carts-count .result - 0) (c .read-site .last .carts));
-          horizon = c .horizon-horizon .result } in
+    record {
+      kind = site-kind;
+      moves = table-moves (site .floor .table);
+      tariff = take (site .tariff - 0) (c .read-site .last .tariff);
+      carts = map cart-of (take (c .carts-count .result - 0) (c .read-site .last .carts));
+      horizon = c .horizon-horizon .result;
+    } in
     let same : instance-of s ≡ i =
-        λ t. record { kind = site-kind; moves = sym (read .holds .floor) t; tariff = sym tariff t; carts = map cart-of (sym carts t); horizon = sym ticks t } in
+    λ t. record { kind = site-kind; moves = sym (read .holds .floor) t; tariff = sym tariff t; carts = map cart-of (sym carts t); horizon = sym ticks t } in
     let rooms = same-rooms (tables (c .args .lanes .now) (c .args .tariff .now) (c .args .carts .now)) (c .pre .lanes) (c .pre .tariff) (c .pre .carts) in
     page-made bytes i (c .page-of .result)
     (record { short = read .short; records = read .records; accepted = subst (λ (r : Rooms). Accepted r bytes (read .records)) rooms (read .accepted); says = same })
