@@ -11,15 +11,22 @@ use Rattle.std.specs.Options.{orOther}
 use Rattle.std.specs.declared.option.Option.the-variants.{Some, None}
 use Rattle.std.specs.declared.result.Result.the-variants.{Ok, Err}
 use Rattle.std.proofs.shelf.Elements.{all-getD}
-use Rattle.std.proofs.shelf.Tests.{le-ltb, lt-leb, leb-true, leb-false}
+use Rattle.std.proofs.shelf.Tests.{cond-true, le-leb, le-ltb, lt-leb, leb-true, leb-false}
 use Rattle.labels.specs.declared.refusal.LabelRefusal.{LabelRefusal}
 use Rattle.labels.specs.declared.refusal.LabelRefusal.the-variants.{NoRowLeft}
 use Rattle.labels.specs.Answers.{told, refusal, hindrance, walk-hindrance}
-use Rattle.labels.proofs.Answering.{refused-by, unhindered, walk-unhindered}
+use Rattle.labels.specs.Queries.{Asked, label-total}
+use Rattle.labels.proofs.Answering.{refused-by, walk-unhindered}
 use Rattle.rules.specs.Instances.{Instance, places, cart-count, start-of, goal-of}
 use Rattle.rules.specs.Offers.{label-count}
 use Rattle.offer_pages.specs.Carts.{Ready}
 use Rattle.offer_pages.specs.Views.{alone}
+
+-- nothing hinders a query that is not refused and whose labels fit
+unhindered : {C : Type 0} (a : Asked C) (rows : ℕ) → None ≡ refusal a rows → label-total a ≤ rows → hindrance a rows ≡ None
+unhindered a rows h le =
+    ap (λ o. orOther o (cond (leb (label-total a) rows) None (Some NoRowLeft))) (sym h)
+    ∙ cond-true (leb (label-total a) rows) None (Some NoRowLeft) (le-leb (label-total a) rows le)
 
 -- an answer is told where there is room, and else a refusal
 told-fits : {X : Type 0} (b : Bool) (n x : X) → Ok n ≡ told (cond b None (Some NoRowLeft)) x → (b ≡ true) × (n ≡ x)
