@@ -1,3 +1,5 @@
+#![tactic(auto)]
+
 pub mod cart;
 mod constrains;
 mod constraint;

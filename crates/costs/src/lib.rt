@@ -1,3 +1,5 @@
+#![tactic(auto)]
+
 mod digits;
 mod kind;
 pub mod pair;

@@ -1,3 +1,5 @@
+#![tactic(auto)]
+
 mod floor;
 mod grid_floor;
 pub mod lane_floor;

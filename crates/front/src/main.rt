@@ -1,3 +1,5 @@
+#![tactic(auto)]
+
 // Prints the costs of a price list that no other dominates: `front costs` or `front zones`, with the list on standard input.
 use prices::{Answer, MOST_BYTES, front_page};
 use std::io::{Read, Write};

@@ -1,3 +1,5 @@
+#![tactic(auto)]
+
 mod added;
 mod adding;
 mod covering;

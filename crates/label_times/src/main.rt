@@ -1,3 +1,5 @@
+#![tactic(auto)]
+
 // Times the label search on one case that standard input describes, and prints what it found: the number of labels, and every offer with its walk.
 // The best of the times, in nanoseconds, goes to standard error. `bench/` has the same search in plain Rust, and says how a case is written.
 use crate::running::run_case;

@@ -1,3 +1,5 @@
+#![tactic(auto)]
+
 // Runs the label search on many small floors beside a search that tries every walk, and prints how often the two agree.
 use crate::settings::{TRIALS, run_setting};
 use costs::{Pair, Total, Worst, Zones};

@@ -1,3 +1,5 @@
+#![tactic(auto)]
+
 mod allowed;
 mod calls;
 mod cell;

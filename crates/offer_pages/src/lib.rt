@@ -1,3 +1,5 @@
+#![tactic(auto)]
+
 mod carts_asked;
 mod checks;
 mod fault;

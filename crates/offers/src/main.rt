@@ -1,3 +1,5 @@
+#![tactic(auto)]
+
 // Prints what each cart of a site has on offer, as if it were alone. The site stands on standard input.
 use offer_pages::{MOST_BYTES, offer_page};
 use std::io;

@@ -1,3 +1,5 @@
+#![tactic(auto)]
+
 // Tries sites, good and malformed: standard input has one after another, each below a line that begins with `-` and names it. Prints each
 // name, and below it what is printed for the site.
 ghost use Rattle.std.specs.Prelude.{◌≤◌, length};

@@ -1,3 +1,5 @@
+#![tactic(auto)]
+
 mod bodies;
 mod heads;
 mod lines;
