@@ -5,8 +5,8 @@ use Rattle.std.proofs.ByRecursion.{All-more, All-get_or}
 use Rattle.std.proofs.lemmas.List.{take_all}
 use Rattle.digits.proofs.numbers.all_digits.Goals as goal
 
-pub returns-then-not-is-ascii-digit : goal.returns-then-not-is-ascii-digit
-returns-then-not-is-ascii-digit c =
+pub returns-then-not-is_ascii_digit : goal.returns-then-not-is_ascii_digit
+returns-then-not-is_ascii_digit c =
     (λ e. search rules, λ h. let d = All-get_or (IsInRange 48 57) c.args.bytes.now c.loop-b.b-index 0 c.loop-b-test.true h in search rules)
 
 pub loop-b-preserved : goal.loop-b-preserved
