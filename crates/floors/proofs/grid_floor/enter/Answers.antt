@@ -11,16 +11,16 @@ absent : (o : Option ℕ) → ((n : ℕ) → o ≡ Some n → ⊥) → o ≡ Non
 absent None h = refl
 absent (Some n) h = absurd (h n refl)
 
-pub returns-in-default : goal.returns-in-default
-returns-in-default c =
-    sym (ap (λ o. extended (table_moves c.args.table.now) c.args.from (entering c.args.cells.now o)) (absent c.args.to c.in-default.not-Some)
+pub returns-in_default : goal.returns-in_default
+returns-in_default c =
+    sym (ap (λ o. extended (table_moves c.args.table.now) c.args.from (entering c.args.cells.now o)) (absent c.args.to c.in_default.not-Some)
     ∙ extended_none (table_moves c.args.table.now) c.args.from)
 
-pub overflow-cast-from : goal.overflow-cast-from
-overflow-cast-from c = let bounds = table_bounds c.args.table.now in omega arith
+pub overflow_cast-from : goal.overflow_cast-from
+overflow_cast-from c = let bounds = table_bounds c.args.table.now in omega arith
 
-pub overflow-cast-to : goal.overflow-cast-to
-overflow-cast-to c =
+pub overflow_cast-to : goal.overflow_cast-to
+overflow_cast-to c =
     let bounds = table_bounds c.args.table.now in
     let to = MatchOption-at_some _ _ c.in-Some.to c.in-Some.is c.requires.to in
     omega arith

@@ -10,23 +10,23 @@ use Rattle.costs.proofs.zones_kind.ZonesText.write_text.Goals as goal
 room_for : (z : Zones) (len room : ℕ) → (len ≡ length (zones_text z)) × (len ≤ room) → length (decimal (ones z.bits)) + 17 ≤ room
 room_for z len room h = omega (arith, length_zones z)
 
-pub put-decimal-stroke-requires : goal.put-decimal-stroke-requires
-put-decimal-stroke-requires c = let fits = room_for c.args.self.now _ _ c.in-Some.ensures in omega arith
+pub put_decimal-stroke-requires : goal.put_decimal-stroke-requires
+put_decimal-stroke-requires c = let fits = room_for c.args.self.now _ _ c.in-Some.ensures in omega arith
 
 pub bounds-out-stroke : goal.bounds-out-stroke
 bounds-out-stroke c = let fits = room_for c.args.self.now _ _ c.in-Some.ensures in omega arith
 
-pub overflow-add-stroke : goal.overflow-add-stroke
-overflow-add-stroke c = let fits = room_for c.args.self.now _ _ c.in-Some.ensures in omega arith
+pub overflow_add-stroke : goal.overflow_add-stroke
+overflow_add-stroke c = let fits = room_for c.args.self.now _ _ c.in-Some.ensures in omega arith
 
-pub slice-bounds-put-hex-digits-count : goal.slice-bounds-put-hex-digits-count
-slice-bounds-put-hex-digits-count c = let fits = room_for c.args.self.now _ _ c.in-Some.ensures in simp length-set (omega arith)
+pub slice_bounds-put_hex_digits-count : goal.slice_bounds-put_hex_digits-count
+slice_bounds-put_hex_digits-count c = let fits = room_for c.args.self.now _ _ c.in-Some.ensures in simp length-set (omega arith)
 
-pub slice-bounds-put-hex-digits-start : goal.slice-bounds-put-hex-digits-start
-slice-bounds-put-hex-digits-start c = let fits = room_for c.args.self.now _ _ c.in-Some.ensures in simp length-set (omega arith)
+pub slice_bounds-put_hex_digits-start : goal.slice_bounds-put_hex_digits-start
+slice_bounds-put_hex_digits-start c = let fits = room_for c.args.self.now _ _ c.in-Some.ensures in simp length-set (omega arith)
 
-pub put-hex-digits-requires : goal.put-hex-digits-requires
-put-hex-digits-requires c = let fits = room_for c.args.self.now _ _ c.in-Some.ensures in simp (length-take, length-drop, length-set) (omega arith)
+pub put_hex_digits-requires : goal.put_hex_digits-requires
+put_hex_digits-requires c = let fits = room_for c.args.self.now _ _ c.in-Some.ensures in simp (length-take, length-drop, length-set) (omega arith)
 
 pub returns : goal.returns
 returns c =
@@ -35,6 +35,6 @@ returns c =
     let room : length (zones_text c.args.self.now) ≤ length c.args.out.now = omega arith in (
       fits.0,
       room,
-      put_parts (decimal (ones z)) (hex_digits 16 z) c.args.out.now c.put-decimal-stroke.new.out c.put-hex-digits.new.out c.put-decimal-stroke.result 47 16
-          c.put-decimal-stroke.ensures.len (sym (length-hex_digits 16 z)) room c.put-decimal-stroke.ensures.bytes c.put-hex-digits.ensures,
+      put_parts (decimal (ones z)) (hex_digits 16 z) c.args.out.now c.put_decimal-stroke.new.out c.put_hex_digits.new.out c.put_decimal-stroke.result 47 16
+          c.put_decimal-stroke.ensures.len (sym (length-hex_digits 16 z)) room c.put_decimal-stroke.ensures.bytes c.put_hex_digits.ensures,
     )

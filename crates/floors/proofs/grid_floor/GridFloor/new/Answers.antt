@@ -15,10 +15,10 @@ loop-place-preserved c =
     let size = c.in-Some.ensures.1 in
     let lt : c.loop-place.place < c.args.width * c.args.height = omega arith in
     filled_more (cell_moves c.args.width c.args.height c.args.cells.now) (c.args.width * c.args.height)
-    (table_moves c.loop-place.table) (table_moves c.add-cell.new.table) c.loop-place.place lt c.loop-place.invariant c.add-cell.ensures
+    (table_moves c.loop-place.table) (table_moves c.add_cell.new.table) c.loop-place.place lt c.loop-place.invariant c.add_cell.ensures
 
-pub add-cell-requires : goal.add-cell-requires
-add-cell-requires c =
+pub add_cell-requires : goal.add_cell-requires
+add_cell-requires c =
     let size = c.in-Some.ensures.1 in
     let none_yet = ap length (c.loop-place.invariant.2 c.loop-place.place (omega arith)) in
     record {

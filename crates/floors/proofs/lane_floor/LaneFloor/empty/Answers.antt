@@ -3,5 +3,5 @@ use Rattle.floors.specs.Lanes.{lane_count}
 use Rattle.floors.proofs.LaneTables.{count_none}
 use Rattle.floors.proofs.lane_floor.LaneFloor.empty.Goals as goal
 
-pub invariant-of-result : goal.invariant-of-result
-invariant-of-result c = (sym (ap lane_count c.empty.ensures ∙ count_none c.args.places), tt)
+pub invariant_of-result : goal.invariant_of-result
+invariant_of-result c = record { counted = sym (ap lane_count c.empty.ensures ∙ count_none c.args.places) }

@@ -9,20 +9,20 @@ blank = record { from = 0; to = 0; line = 0 }
 
 pub loop-row-init : goal.loop-row-init
 loop-row-init c =
-    let made = c.in-ok-floor.ensures in
+    let made = c.in_ok-floor.ensures in
     read_none c.args.places c.args.rows.now _ made.refusal made.moves
 
 pub loop-row-preserved : goal.loop-row-preserved
 loop-row-preserved c =
-    let added = c.in-ok-add-lane.ensures in
+    let added = c.in_ok-add_lane.ensures in
     read_more c.args.places c.args.rows.now (table_moves c.loop-row.floor.table) c.loop-row.row-index blank
-    c.loop-row-test.true c.loop-row.invariant (table_moves c.add-lane.new.self.table) added.refusal added.moves
+    c.loop-row-test.true c.loop-row.invariant (table_moves c.add_lane.new.self.table) added.refusal added.moves
 
-pub returns-in-err-add-lane : goal.returns-in-err-add-lane
-returns-in-err-add-lane c =
-    let p = err_from_is_err_and c.from-residual-in-err-add-lane.result c.from-residual-in-err-add-lane.ensures.1 in
+pub returns-in_err-add_lane : goal.returns-in_err-add_lane
+returns-in_err-add_lane c =
+    let p = err_from_is_err_and c.from_residual-in_err-add_lane.result c.from_residual-in_err-add_lane.ensures.1 in
     let first = read_refused c.args.places c.args.rows.now (table_moves c.loop-row.floor.table) c.loop-row.row-index blank
-    c.loop-row-test.true c.loop-row.invariant _ c.in-err-add-lane.ensures.refusal in
+    c.loop-row-test.true c.loop-row.invariant _ c.in_err-add_lane.ensures.refusal in
     rw (p.1, p.2) (record { refusal = first; moves = tt })
 
 pub returns : goal.returns

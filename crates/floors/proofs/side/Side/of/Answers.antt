@@ -4,11 +4,11 @@ use Rattle.floors.specs.Grids.{neighbour}
 use Rattle.floors.proofs.Cells.{cell_above, cell_below, cell_right}
 use Rattle.floors.proofs.side.Side.of.Goals as goal
 
-pub overflow-sub-result : goal.overflow-sub-result
-overflow-sub-result c = (cell_above c.args.width c.args.height c.args.place c.requires.place c.if-y-gt0.true).0
+pub overflow_sub-result : goal.overflow_sub-result
+overflow_sub-result c = (cell_above c.args.width c.args.height c.args.place c.requires.place c.if-y-gt0.true).0
 
-pub overflow-add-result-then-y-height : goal.overflow-add-result-then-y-height
-overflow-add-result-then-y-height c =
+pub overflow_add-result-then-y-height : goal.overflow_add-result-then-y-height
+overflow_add-result-then-y-height c =
     let cell = cell_below c.args.width c.args.height c.args.place c.requires.place c.if-y-height.true in
     omega arith
 
