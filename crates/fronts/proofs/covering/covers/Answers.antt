@@ -6,14 +6,14 @@ pub loop-i-preserved : goal.loop-i-preserved
 loop-i-preserved g c =
     let lt : c.loop-i.i < min c.args.len (length c.args.rows.now) = omega arith in
     let step = covered_more g.C.CostKind.kind c.args.cost c.args.rows.now c.args.len c.loop-i.i c.index-rows-i.result lt in
-    let no_more = sym c.if-at-most.ensures in
+    let no_more = sym c.if-at_most.ensures in
     sym (rw no_more at step) ∙ c.loop-i.invariant
 
-pub returns-then-at-most : goal.returns-then-at-most
-returns-then-at-most g c =
+pub returns-then-at_most : goal.returns-then-at_most
+returns-then-at_most g c =
     let lt : c.loop-i.i < min c.args.len (length c.args.rows.now) = omega arith in
     let step = covered_more g.C.CostKind.kind c.args.cost c.args.rows.now c.args.len c.loop-i.i c.index-rows-i.result lt in
-    let found = sym c.if-at-most.ensures in
+    let found = sym c.if-at_most.ensures in
     sym (rw found at step) ∙ c.loop-i.invariant
 
 pub returns : goal.returns

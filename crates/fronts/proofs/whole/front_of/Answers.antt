@@ -9,7 +9,7 @@ pub loop-i-preserved : goal.loop-i-preserved
 loop-i-preserved g c = (
   c.add.ensures.same ∙ c.loop-i.invariant.0,
   taking_more g.C.CostKind.kind c.args.given.now c.new-list.result.rows.now c.loop-i.list.rows.now c.add.new.self.rows.now c.loop-i.list.len c.add.new.self.len c.loop-i.i
-      c.index-given-i.result c.add.result c.loop-i.invariant.1 c.loop-i-test.true c.index-given-i.is c.add.ensures.holds c.add.ensures.len c.in-default.not-NoRow,
+      c.index-given-i.result c.add.result c.loop-i.invariant.1 c.loop-i-test.true c.index-given-i.is c.add.ensures.holds c.add.ensures.len c.in_default.not-NoRow,
 )
 
 pub returns-in-NoRow : goal.returns-in-NoRow

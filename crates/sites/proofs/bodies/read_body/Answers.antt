@@ -2,9 +2,9 @@ use Rattle.std.proofs.Common.{arith}
 use Rattle.sites.proofs.Reaching.{front_long, misread_here, next_refused, next_inside, next_reached, all_read}
 use Rattle.sites.proofs.bodies.read_body.Goals as goal
 
-pub returns-in-default : goal.returns-in-default
-returns-in-default c =
-    misread_here c.args.rooms c.args.bytes.now c.loop-at.at c.loop-at.line c.loop-at.reading c.loop-at.invariant c.loop-at-test.true c.in-default.ensures
+pub returns-in_default : goal.returns-in_default
+returns-in_default c =
+    misread_here c.args.rooms c.args.bytes.now c.loop-at.at c.loop-at.line c.loop-at.reading c.loop-at.invariant c.loop-at-test.true c.in_default.ensures
 
 pub returns-in-Err : goal.returns-in-Err
 returns-in-Err c =

@@ -6,23 +6,23 @@ use Rattle.sites.proofs.lines.next_number.Goals as goal
 abbrev past : List ℕ → List ℕ
 past bs = take (length bs - 1) (drop 1 bs)
 
-pub returns-in-default-split-once : goal.returns-in-default-split-once
-returns-in-default-split-once c n more small e =
+pub returns-in_default-split_once : goal.returns-in_default-split_once
+returns-in_default-split_once c n more small e =
     let first : c.args.bytes.now ≡ 32 ∷ past c.args.bytes.now = first_byte c.args.bytes.now 32 (search rules) (search rules) in
     let P : List ℕ → Type 0 = Without 32 in
-    not_without 32 (decimal n) more (subst P (tail_same 32 32 _ _ (sym first ∙ e)) c.in-default-split-once.ensures)
+    not_without 32 (decimal n) more (subst P (tail_same 32 32 _ _ (sym first ∙ e)) c.in_default-split_once.ensures)
 
-pub returns-in-default-number : goal.returns-in-default-number
-returns-in-default-number c n more small e =
+pub returns-in_default-number : goal.returns-in_default-number
+returns-in_default-number c n more small e =
     let first : c.args.bytes.now ≡ 32 ∷ past c.args.bytes.now = first_byte c.args.bytes.now 32 (search rules) (search rules) in
-    no_next_number _ c.in-Some.digits.now c.in-Some.field-0-1.now c.in-Some.ensures.0 c.in-Some.ensures.1 c.in-default-number.ensures
+    no_next_number _ c.in-Some.digits.now c.in-Some.field-0-1.now c.in-Some.ensures.0 c.in-Some.ensures.1 c.in_default-number.ensures
     n more small (tail_same 32 32 _ _ (sym first ∙ e))
 
-pub slice-bounds-result-count : goal.slice-bounds-result-count
-slice-bounds-result-count c = digits_within _ c.in-Some.digits.now c.in-Some.field-0-1.now c.in-Some.ensures.0
+pub slice_bounds-result-count : goal.slice_bounds-result-count
+slice_bounds-result-count c = digits_within _ c.in-Some.digits.now c.in-Some.field-0-1.now c.in-Some.ensures.0
 
-pub slice-bounds-result-start : goal.slice-bounds-result-start
-slice-bounds-result-start c =
+pub slice_bounds-result-start : goal.slice_bounds-result-start
+slice_bounds-result-start c =
     let h : length c.in-Some.digits.now ≤ length (past c.args.bytes.now) = digits_within _ c.in-Some.digits.now c.in-Some.field-0-1.now c.in-Some.ensures.0 in
     search rules
 

@@ -6,8 +6,8 @@ use Rattle.sites.proofs.writing.write_rows.Goals as goal
 pub loop-record-init : goal.loop-record-init
 loop-record-init c = none_passed c.args.bytes.now c.args.lanes.now c.args.tariff.now c.requires
 
-pub write-record-written-requires : goal.write-record-written-requires
-write-record-written-requires c =
+pub write_record-written-requires : goal.write_record-written-requires
+write_record-written-requires c =
     let front = c.in-Some.ensures in
     record {
       fitting = front.fitting;
@@ -20,18 +20,18 @@ loop-record-smaller c =
     let front = c.in-Some.ensures in
     let long = front_long _ c.in-Some.«record» c.in-Some.length front in
     let next = next_passed c.args.bytes.now c.loop-record.at _ _ _ _ _ _ c.loop-record.invariant c.in-Some.«record» c.in-Some.length front
-    c.write-record-written.new.lanes c.write-record-written.new.tariff c.write-record-written.result.lanes c.write-record-written.result.tariff
-    c.write-record-written.ensures.lanes.0 c.write-record-written.ensures.lanes.1 c.write-record-written.ensures.tariff.0 c.write-record-written.ensures.tariff.1 in
+    c.write_record-written.new.lanes c.write_record-written.new.tariff c.write_record-written.result.lanes c.write_record-written.result.tariff
+    c.write_record-written.ensures.lanes.0 c.write_record-written.ensures.lanes.1 c.write_record-written.ensures.tariff.0 c.write_record-written.ensures.tariff.1 in
     omega (arith, next.inside)
 
 pub loop-record-preserved : goal.loop-record-preserved
 loop-record-preserved c =
     next_passed c.args.bytes.now c.loop-record.at _ _ _ _ _ _ c.loop-record.invariant c.in-Some.«record» c.in-Some.length c.in-Some.ensures
-    c.write-record-written.new.lanes c.write-record-written.new.tariff c.write-record-written.result.lanes c.write-record-written.result.tariff
-    c.write-record-written.ensures.lanes.0 c.write-record-written.ensures.lanes.1 c.write-record-written.ensures.tariff.0 c.write-record-written.ensures.tariff.1
+    c.write_record-written.new.lanes c.write_record-written.new.tariff c.write_record-written.result.lanes c.write_record-written.result.tariff
+    c.write_record-written.ensures.lanes.0 c.write_record-written.ensures.lanes.1 c.write_record-written.ensures.tariff.0 c.write_record-written.ensures.tariff.1
 
 pub returns : goal.returns
 returns c =
     let p = c.loop-record.invariant in
-    let w = written c.args.bytes.now c.loop-record.at _ _ _ _ _ _ p (all_done c.args.bytes.now c.loop-record.at _ _ _ _ _ _ p c.in-default.ensures) in
+    let w = written c.args.bytes.now c.loop-record.at _ _ _ _ _ _ p (all_done c.args.bytes.now c.loop-record.at _ _ _ _ _ _ p c.in_default.ensures) in
     record { lanes = w.0; tariff = w.1 }

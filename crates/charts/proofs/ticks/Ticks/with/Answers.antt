@@ -4,8 +4,8 @@ use Rattle.std.proofs.lemmas.Nat.{mod_below}
 use Rattle.charts.proofs.TickSets.{more_has}
 use Rattle.charts.proofs.ticks.Ticks.with.Goals as goal
 
-pub invariant-of-result : goal.invariant-of-result
-invariant-of-result c = (or_lt 64 c.args.self.bits _ c.args.self.fits (mod_below _ (2 ^ 64) (omega arith)), tt)
+pub invariant_of-result : goal.invariant_of-result
+invariant_of-result c = (or_lt 64 c.args.self.bits _ c.args.self.fits (mod_below _ (2 ^ 64) (omega arith)), tt)
 
 pub returns : goal.returns
 returns c = more_has c.args.self _ c.args.tick (omega (arith, c.if-tick-gt63.false)) refl

@@ -20,7 +20,7 @@ returns-in-Ok c =
           let free : cart_refusal s.carts c.args.rows c.args.start c.args.goal ≡ None =
           sym (cart-room s.carts cs k c.args.rows c.args.start c.args.goal g.carts g.rows room)
           ∙ ap (λ m. cart_refusal (take m (take k cs)) (length (take k cs)) c.args.start c.args.goal) (sym g.entered) ∙ h.0 in
-          let rows : c.add-cart.new.rows ++ post_of 0 k cs ≡ set (take k cs) (length s.carts) cart ++ post_of 0 k cs =
+          let rows : c.add_cart.new.rows ++ post_of 0 k cs ≡ set (take k cs) (length s.carts) cart ++ post_of 0 k cs =
           ap (λ t. t ++ post_of 0 k cs) (h.3 ∙ ap (λ m. set (take k cs) m cart) g.entered) in (
             free,
             record {
