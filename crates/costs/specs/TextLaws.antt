@@ -2,7 +2,7 @@
 -- Assumes nothing.
 use Rattle.std.specs.Prelude.{◌≡◌, ℕ, zero, suc, ◌+◌, ◌/◌, ◌%◌, ◌^◌, ◌<◌, ◌≤◌, List, [], ◌∷◌, ◌++◌, length, decimal, ◌≢◌, refl}
 use Rattle.std.proofs.Common.{sym, ap, ◌∙◌, arith, pow-suc, length-append}
-use Rattle.std.specs.List.{AllByRecursion as All}
+use Rattle.std.specs.List.{AllByRecursion}
 use Rattle.std.proofs.lemmas.Fmt.{decimal_by_steps, decimal_injective}
 use Rattle.std.proofs.ByRecursion.{All-push, All-weaker}
 use Rattle.std.proofs.lemmas.List.{append_cancel_left, append_assoc}
@@ -10,7 +10,7 @@ use Rattle.std.proofs.lemmas.Bool.Decides.{nat_tests}
 use Rattle.costs.specs.Texts.{Texts, Begins, ended, Apart, hex_digit, hex_digits}
 
 -- what stands before the first c can be read off
-pub until : (c : ℕ) (xs ys r s : List ℕ) → All (λ x. x ≢ c) xs → All (λ x. x ≢ c) ys → xs ++ (c ∷ r) ≡ ys ++ (c ∷ s) → xs ≡ ys
+pub until : (c : ℕ) (xs ys r s : List ℕ) → AllByRecursion (λ x. x ≢ c) xs → AllByRecursion (λ x. x ≢ c) ys → xs ++ (c ∷ r) ≡ ys ++ (c ∷ s) → xs ≡ ys
 until c [] [] r s p q e = refl
 until c [] (y ∷ ys) r s p q e = let h : y ≡ c = cc in absurd (q.0 h)
 until c (x ∷ xs) [] r s p q e = let h : x ≡ c = cc in absurd (p.0 h)
@@ -20,18 +20,18 @@ until c (x ∷ xs) (y ∷ ys) r s p q e = let h : x ≡ y = cc in let t : xs ++ 
 pub past : (c : ℕ) (xs ys r s : List ℕ) → xs ≡ ys → xs ++ (c ∷ r) ≡ ys ++ (c ∷ s) → r ≡ s
 past c xs ys r s same e = let k = append_cancel_left ys (c ∷ r) (c ∷ s) (ap (λ (x : List ℕ). x ++ (c ∷ r)) (sym same) ∙ e) in cc
 
-pub from_zero : (n : ℕ) → n < 2 ^ 64 → All (λ x. 48 ≤ x) (decimal n)
-from_zero = decimal_by_steps (λ n ds. All (λ x. 48 ≤ x) ds) (λ n h. (omega arith, tt)) (λ n ds h k. All-push (λ x. 48 ≤ x) ds (48 + n % 10) k (omega arith))
+pub from_zero : (n : ℕ) → n < 2 ^ 64 → AllByRecursion (λ x. 48 ≤ x) (decimal n)
+from_zero = decimal_by_steps (λ n ds. AllByRecursion (λ x. 48 ≤ x) ds) (λ n h. (omega arith, tt)) (λ n ds h k. All-push (λ x. 48 ≤ x) ds (48 + n % 10) k (omega arith))
 
 hex_digit_ge : (d : ℕ) → 48 ≤ hex_digit d
 hex_digit_ge d = grind (arith, nat_tests)
 
-pub from_zero_hex : (k n : ℕ) → All (λ x. 48 ≤ x) (hex_digits k n)
+pub from_zero_hex : (k n : ℕ) → AllByRecursion (λ x. 48 ≤ x) (hex_digits k n)
 unfolding hex_digits
 from_zero_hex zero n = tt
 from_zero_hex (suc k) n = All-push (λ x. 48 ≤ x) (hex_digits k (n / 16)) (hex_digit (n % 16)) (from_zero_hex k (n / 16)) (hex_digit_ge (n % 16))
 
-pub without : (c : ℕ) (xs : List ℕ) → c < 48 → All (λ x. 48 ≤ x) xs → All (λ x. x ≢ c) xs
+pub without : (c : ℕ) (xs : List ℕ) → c < 48 → AllByRecursion (λ x. 48 ≤ x) xs → AllByRecursion (λ x. x ≢ c) xs
 without c xs h = All-weaker (λ x. 48 ≤ x) (λ x. x ≢ c) (λ x k e. omega arith) xs
 
 -- numbers are read off their decimals

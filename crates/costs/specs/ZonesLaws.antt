@@ -9,7 +9,7 @@ use Rattle.std.proofs.lemmas.Bool.{eqb-true, eq-eqb}
 use Rattle.std.proofs.lemmas.Bool.Decides.{nat_tests}
 use Rattle.std.proofs.lemmas.Fmt.{decimal_nonempty}
 use Rattle.std.proofs.ByRecursion.{All-append, All-weaker}
-use Rattle.std.specs.List.{AllByRecursion as All}
+use Rattle.std.specs.List.{AllByRecursion}
 use Rattle.rules.specs.Kinds.{Laws}
 use Rattle.costs.specs.Texts.{Texts, hex_digits}
 use Rattle.costs.specs.TextLaws.{until, past, without, from_zero, from_zero_hex, hex_digits_same}
@@ -73,10 +73,10 @@ zones_laws =
 few : (z : Zones) → count_ones z.bits < 2 ^ 64
 few z = omega (arith, ones-le 64 z.bits z.fits)
 
-no_less : (z : Zones) → All (λ x. 47 ≤ x) (zones_text z)
+no_less : (z : Zones) → AllByRecursion (λ x. 47 ≤ x) (zones_text z)
 no_less z = All-append (λ x. 47 ≤ x) _ _ (All-weaker (λ x. 48 ≤ x) (λ x. 47 ≤ x) (λ x h. omega arith) _ (from_zero (count_ones z.bits) (few z))) (omega arith, All-weaker (λ x. 48 ≤ x) (λ x. 47 ≤ x) (λ x h. omega arith) (hex_digits 16 z.bits) (from_zero_hex 16 z.bits))
 
-text_without : (z : Zones) (c : ℕ) → c < 47 → All (λ x. x ≢ c) (zones_text z)
+text_without : (z : Zones) (c : ℕ) → c < 47 → AllByRecursion (λ x. x ≢ c) (zones_text z)
 text_without z c h = All-weaker (λ x. 47 ≤ x) (λ x. x ≢ c) (λ x k e. omega arith) _ (no_less z)
 
 text_same : (a b : Zones) → zones_text a ≡ zones_text b → a ≡ b

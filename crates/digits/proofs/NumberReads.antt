@@ -2,8 +2,8 @@
 use Rattle.std.proofs.Common.{◌≡◌, ℕ, ◌+◌, ◌-◌, ◌*◌, ◌^◌, ◌<◌, ◌≤◌, ◌⊎◌, List, [], ◌∷◌, ◌++◌, length, get_or, take, drop, decimal, sym, refl, ap, ◌∙◌, subst, inl, inr, arith, rules}
 use Rattle.std.specs.Str.Parse.{digits_value, digits_value_after}
 use Rattle.std.specs.Int.{IsInRange}
-use Rattle.std.specs.Char.{digit_value as digitValue}
-use Rattle.std.specs.List.{AllByRecursion as All}
+use Rattle.std.specs.Char.{digit_value as value_of_digit}
+use Rattle.std.specs.List.{AllByRecursion}
 use Rattle.std.proofs.lemmas.Fmt.{decimal-digits_value, digits_decimal, decimal_nonempty, first_decimal, decimal_digit}
 use Rattle.std.proofs.lemmas.Int.Digits.{digits_value_more}
 use Rattle.std.proofs.ByRecursion.{All-get_or}
@@ -13,24 +13,24 @@ use Rattle.std.proofs.lemmas.Bool.{cases_eq}
 use Rattle.std.proofs.lemmas.Bool.Decides.{nat_tests}
 use Rattle.digits.specs.Numbers.{BaseTen}
 
-pub digits_own : IsNumeralModel (All (IsInRange 48 57)) (digits_value 10)
+pub digits_own : IsNumeralModel (AllByRecursion (IsInRange 48 57)) (digits_value 10)
 digits_own = numerals_by_value _ (search rules)
 
-digit_value : (c : ℕ) → IsInRange 48 57 c → digitValue c ≡ c - 48
+digit_value : (c : ℕ) → IsInRange 48 57 c → value_of_digit c ≡ c - 48
 digit_value c h = grind (arith, nat_tests)
 
 -- one digit more
-pub value_next : (bs : List ℕ) (i : ℕ) → i < length bs → All (IsInRange 48 57) bs → digits_value 10 (take (i + 1) bs) ≡ digits_value 10 (take i bs) * 10 + (get_or bs i 0 - 48)
+pub value_next : (bs : List ℕ) (i : ℕ) → i < length bs → AllByRecursion (IsInRange 48 57) bs → digits_value 10 (take (i + 1) bs) ≡ digits_value 10 (take i bs) * 10 + (get_or bs i 0 - 48)
 value_next bs i h ds =
     digits_value_more 10 bs i h ∙ ap (λ d. digits_value 10 (take i bs) * 10 + d) (digit_value (get_or bs i 0) (All-get_or (IsInRange 48 57) bs i 0 h ds))
 
 after_ge : (n : ℕ) (bs : List ℕ) → n ≤ digits_value_after 10 n bs
 after_ge n [] = omega arith
-after_ge n (b ∷ bs) = omega (arith, after_ge (n * 10 + digitValue b) bs)
+after_ge n (b ∷ bs) = omega (arith, after_ge (n * 10 + value_of_digit b) bs)
 
 after-append : (n : ℕ) (cs bs : List ℕ) → digits_value_after 10 n (cs ++ bs) ≡ digits_value_after 10 (digits_value_after 10 n cs) bs
 after-append n [] bs = refl
-after-append n (c ∷ cs) bs = after-append (n * 10 + digitValue c) cs bs
+after-append n (c ∷ cs) bs = after-append (n * 10 + value_of_digit c) cs bs
 
 -- a front writes no larger number
 pub front_value_le : (bs : List ℕ) (i : ℕ) → digits_value 10 (take i bs) ≤ digits_value 10 bs

@@ -1,6 +1,6 @@
 ghost use Rattle.std.specs.Prelude.{Decides};
 ghost use Rattle.std.specs.Int.{IsInRange};
-ghost use Rattle.std.specs.List.{AllByRecursion as All};
+ghost use Rattle.std.specs.List.{AllByRecursion};
 ghost use Rattle.digits.specs.Numbers.{BaseTen, NumberRead};
 
 // Why bytes are not read: they are not of the form, or they write a number above the most.
@@ -12,7 +12,7 @@ pub enum ReadFault {
 
 // Whether every byte is a digit.
 fn all_digits(bytes: &[u8]) -> bool
-    ensures { Decides result (All (IsInRange 48 57) bytes.now) }
+    ensures { Decides result (AllByRecursion (IsInRange 48 57) bytes.now) }
 {
     for b in bytes {
         if !b.is_ascii_digit() {

@@ -2,7 +2,7 @@
 -- Assumes nothing.
 use Rattle.std.specs.Prelude.{◌≡◌, ℕ, ◌<◌, ◌≤◌, List, [], length, slice_index_or, slice_set}
 use Rattle.std.proofs.Common.{sym, subst, inl, inr, arith}
-use Rattle.std.specs.List.{AllByRecursion as All}
+use Rattle.std.specs.List.{AllByRecursion}
 use Rattle.std.proofs.ByRecursion.{All-set}
 use Rattle.std.proofs.lemmas.List.{get_or_past, get_or-set_same, length-set}
 use Rattle.std.proofs.lemmas.Bool.{cases_lt}
@@ -17,7 +17,7 @@ shut_bounds moves p b =
       few_places = omega (arith, b.few_places);
       few_moves = All-set (λ ms. length ms ≤ 8) moves p [] (omega arith) b.few_moves;
       moves_inside =
-          subst (λ n. All (All (λ m. m.to < n)) (slice_set moves p [])) (sym same) (All-set (All (λ m. m.to < length moves)) moves p [] tt b.moves_inside);
+          subst (λ n. AllByRecursion (AllByRecursion (λ m. m.to < n)) (slice_set moves p [])) (sym same) (All-set (AllByRecursion (λ m. m.to < length moves)) moves p [] tt b.moves_inside);
     }
 
 -- the shut place has no moves, nor has an absent one

@@ -4,7 +4,7 @@ use Rattle.std.specs.Prelude.{◌≡◌, ℕ, zero, suc, ◌+◌, ◌<◌, ◌�
 use Rattle.std.proofs.Common.{sym, ap, ◌∙◌, zero-le, arith}
 use Rattle.std.proofs.Math.Option.{none, some}
 use Rattle.std.proofs.Math.ListN.{get_elem?}
-use Rattle.std.specs.List.{AllByRecursion as All}
+use Rattle.std.specs.List.{AllByRecursion}
 use Rattle.std.proofs.lemmas.List.{get_or-map, get_or_past, get_or-take, length-map, length-take, length-take-le, map_push, map-set, take_more_set, take-replicate}
 use Rattle.std.proofs.ByRecursion.{All-get_or, All-map, All-set, All-take, All-weaker}
 use Rattle.floors.specs.declared.move_list.MoveList.{MoveList}
@@ -56,20 +56,20 @@ table_past t p h = get_or_past (table_moves t) p [] (omega (arith, table_length 
 
 -- every step reaches a place below n: as the table states it, and list by list
 
-steps_from : (n : ℕ) (steps : List Step) → ((k : ℕ) → slice_index (map (λ s. s.to) steps) k < n) → All (λ s. s.to < n) steps
+steps_from : (n : ℕ) (steps : List Step) → ((k : ℕ) → slice_index (map (λ s. s.to) steps) k < n) → AllByRecursion (λ s. s.to < n) steps
 steps_from n [] h = tt
 steps_from n (s ∷ ss) h = (h 0, steps_from n ss (λ k. h (suc k)))
 
-lists_from : (n : ℕ) (lists : List MoveList) → ((p k : ℕ) → reached lists p k < n) → All (λ l. All (λ s. s.to < n) l.steps) lists
+lists_from : (n : ℕ) (lists : List MoveList) → ((p k : ℕ) → reached lists p k < n) → AllByRecursion (λ l. AllByRecursion (λ s. s.to < n) l.steps) lists
 lists_from n [] h = tt
 lists_from n (l ∷ ls) h = (steps_from n l.steps (h 0), lists_from n ls (λ p. h (suc p)))
 
-steps_to : (n : ℕ) (steps : List Step) → 0 < n → All (λ s. s.to < n) steps → (k : ℕ) → slice_index (map (λ s. s.to) steps) k < n
+steps_to : (n : ℕ) (steps : List Step) → 0 < n → AllByRecursion (λ s. s.to < n) steps → (k : ℕ) → slice_index (map (λ s. s.to) steps) k < n
 steps_to n [] z h k = z
 steps_to n (s ∷ ss) z h zero = h.0
 steps_to n (s ∷ ss) z h (suc k) = steps_to n ss z h.1 k
 
-lists_to : (n : ℕ) (lists : List MoveList) → 0 < n → All (λ l. All (λ s. s.to < n) l.steps) lists → (p k : ℕ) → reached lists p k < n
+lists_to : (n : ℕ) (lists : List MoveList) → 0 < n → AllByRecursion (λ l. AllByRecursion (λ s. s.to < n) l.steps) lists → (p k : ℕ) → reached lists p k < n
 lists_to n [] z h p k = z
 lists_to n (l ∷ ls) z h zero k = steps_to n l.steps z h.0 k
 lists_to n (l ∷ ls) z h (suc p) k = lists_to n ls z h.1 p k
@@ -81,16 +81,16 @@ count_at t p d h = ap length (table_at t p d h) ∙ held_length (slice_index_or 
 few_held : (l : MoveList) → length (held l) ≤ 8
 few_held l = omega (arith, held_length l)
 
-all_of : {X : Type 0} (P : X → Type 0) → ((x : X) → P x) → (xs : List X) → All P xs
+all_of : {X : Type 0} (P : X → Type 0) → ((x : X) → P x) → (xs : List X) → AllByRecursion P xs
 all_of P h [] = tt
 all_of P h (x ∷ xs) = (h x, all_of P h xs)
 
-held_inside : (n : ℕ) (l : MoveList) → All (λ s. s.to < n) l.steps → All (λ m. m.to < n) (held l)
+held_inside : (n : ℕ) (l : MoveList) → AllByRecursion (λ s. s.to < n) l.steps → AllByRecursion (λ m. m.to < n) (held l)
 held_inside n l h = All-map (λ m. m.to < n) move_of (take l.count l.steps) (All-take (λ s. s.to < n) l.count l.steps h)
 
 pub table_bounds : (t : MoveTable) → FloorBounds (table_moves t)
 table_bounds t =
-    let steps_inside : All (λ l. All (λ s. s.to < t.places) l.steps) (take t.places t.lists) =
+    let steps_inside : AllByRecursion (λ l. AllByRecursion (λ s. s.to < t.places) l.steps) (take t.places t.lists) =
     All-take _ t.places t.lists (lists_from t.places t.lists t.inside) in
     record {
       some_place = rw (table_length t) t.nonempty;
@@ -98,13 +98,13 @@ table_bounds t =
       few_moves = All-map (λ ms. length ms ≤ 8) held (take t.places t.lists) (all_of _ few_held _);
       moves_inside =
           rw (table_length t)
-          (All-map (All (λ m. m.to < t.places)) held (take t.places t.lists)
+          (All-map (AllByRecursion (λ m. m.to < t.places)) held (take t.places t.lists)
           (All-weaker _ _ (held_inside t.places) (take t.places t.lists) steps_inside));
     }
 
 -- a new table: nothing is held, and every step reaches place 0
 
-replicate_all : {X : Type 0} (P : X → Type 0) (n : ℕ) (x : X) → P x → All P (replicate n x)
+replicate_all : {X : Type 0} (P : X → Type 0) (n : ℕ) (x : X) → P x → AllByRecursion P (replicate n x)
 replicate_all P zero x h = tt
 replicate_all P (suc n) x h = (h, replicate_all P n x h)
 
@@ -116,8 +116,8 @@ blank = record { count = 0; steps = replicate 8 blank_step; few = zero-le; full 
 
 pub new_inside : (n : ℕ) → 0 < n → (p k : ℕ) → reached (replicate 128 blank) p k < n
 new_inside n z =
-    let row : All (λ s. s.to < n) blank.steps = replicate_all (λ s. s.to < n) 8 blank_step z in
-    lists_to n (replicate 128 blank) z (replicate_all (λ l. All (λ s. s.to < n) l.steps) 128 blank row)
+    let row : AllByRecursion (λ s. s.to < n) blank.steps = replicate_all (λ s. s.to < n) 8 blank_step z in
+    lists_to n (replicate 128 blank) z (replicate_all (λ l. AllByRecursion (λ s. s.to < n) l.steps) 128 blank row)
 
 map_replicate : {X Y : Type 0} (f : X → Y) (n : ℕ) (x : X) → map f (replicate n x) ≡ replicate n (f x)
 map_replicate f zero x = refl
@@ -165,5 +165,5 @@ module _ (t : MoveTable) (p : ℕ) (d l' : MoveList) (s : Step) (from : p < leng
       let were = lists_from t.places t.lists t.inside in
       let lt : p < length t.lists = omega (arith, table_length t) in
       let here = All-get_or _ t.lists p d lt were in
-      let more : All (λ s. s.to < t.places) l'.steps = rw steps (All-set _ (get_or t.lists p d).steps _ s to' here) in
+      let more : AllByRecursion (λ s. s.to < t.places) l'.steps = rw steps (All-set _ (get_or t.lists p d).steps _ s to' here) in
       lists_to t.places (slice_set t.lists p l') t.nonempty (All-set _ t.lists p l' more were)

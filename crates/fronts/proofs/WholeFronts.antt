@@ -1,7 +1,7 @@
 -- The front of some entries: how it grows with one entry more, and that it is the front of their costs.
 -- Assumes nothing.
 use Rattle.std.proofs.Common.{◌≡◌, ℕ, ◌+◌, ◌<◌, List, [], ◌∷◌, ◌++◌, map, length, get_or, refl, ap, ◌∙◌, inl, inr}
-use Rattle.std.specs.List.{ContainsAt as Has, AllByRecursion as All}
+use Rattle.std.specs.List.{ContainsAt as Has, AllByRecursion}
 use Rattle.std.proofs.lemmas.List.{map_more}
 use Rattle.std.proofs.ByRecursion.{all-has, all_has_itself, All-map, All-weaker}
 use Rattle.rules.specs.Kinds.{Kind, Laws}
@@ -11,7 +11,7 @@ use Rattle.fronts.specs.declared.row.Row.{Row}
 use Rattle.fronts.specs.Rows.{entry_of, in_use}
 use Rattle.fronts.specs.Whole.{costs_of}
 
-all_from_map : {X Y : Type 0} (P : X → Type 0) (f : Y → X) (ys : List Y) → All P (map f ys) → All (λ y. P (f y)) ys
+all_from_map : {X Y : Type 0} (P : X → Type 0) (f : Y → X) (ys : List Y) → AllByRecursion P (map f ys) → AllByRecursion (λ y. P (f y)) ys
 all_from_map P f [] h = tt
 all_from_map P f (y ∷ ys) h = (h.0, all_from_map P f ys h.1)
 
@@ -25,13 +25,13 @@ module _ {C : Type 0} (k : Kind C) where
   front_more rs i d lt = ap (front_of k) (map_more entry_of rs i d lt) ∙ added_all_push [] (in_use i rs) (entry_of (get_or rs i d))
 
   -- each entry's cost is covered by itself
-  self_covered : Laws k → (xs : List (Entry C ℕ)) → All (λ e. Covered k xs e.cost) xs
+  self_covered : Laws k → (xs : List (Entry C ℕ)) → AllByRecursion (λ e. Covered k xs e.cost) xs
   self_covered laws [] = tt
   self_covered laws (x ∷ xs) =
       (inl (laws.at_most_refl x.cost), All-weaker (λ e. Covered k xs e.cost) (λ e. Covered k (x ∷ xs) e.cost) (λ e h. inr h) xs (self_covered laws xs))
 
   -- each entry's cost is among the costs
-  own_cost : (xs : List (Entry C ℕ)) → All (λ e. Has (costs_of xs) e.cost) xs
+  own_cost : (xs : List (Entry C ℕ)) → AllByRecursion (λ e. Has (costs_of xs) e.cost) xs
   own_cost xs = all_from_map (Has (costs_of xs)) (λ e. e.cost) xs (all_has_itself (costs_of xs))
 
   -- the front that is kept is the front of the costs

@@ -2,7 +2,7 @@
 -- Assumes nothing.
 use Rattle.std.proofs.Common.{◌≡◌, ℕ, zero, suc, ◌+◌, ◌-◌, ◌<◌, ◌≤◌, Bool, true, false, cond, eqb, ltb, leb, List, [], ◌∷◌, map, length, take, replicate, Some, None, Ok, Option, sym, refl, ap, ◌∙◌, subst, arith}
 use Rattle.std.specs.Option.{option_map}
-use Rattle.std.specs.List.{AllByRecursion as All, slice_get}
+use Rattle.std.specs.List.{AllByRecursion, slice_get}
 use Rattle.std.proofs.lemmas.List.{length-append, length-map, length-replicate, length-reverse}
 use Rattle.std.proofs.lemmas.Bool.{ltb-false, leb-false, eq-eqb, cond-true}
 use Rattle.floors.specs.Floors.{FloorBounds}
@@ -64,7 +64,7 @@ module _ {X : Type 0} where
   nth-map f (x ∷ xs) zero = refl
   nth-map f (x ∷ xs) (suc n) = nth-map f xs n
 
-  all_nth : (P : X → Type 0) (xs : List X) (n : ℕ) (x : X) → All P xs → Some x ≡ slice_get xs n → P x
+  all_nth : (P : X → Type 0) (xs : List X) (n : ℕ) (x : X) → AllByRecursion P xs → Some x ≡ slice_get xs n → P x
   all_nth P [] n x h e = let z : ◌≡◌ {A = ℕ} 0 1 = cc e in absurd (omega arith)
   all_nth P (y ∷ ys) zero x h e = let same : y ≡ x = cc e in subst P same h.0
   all_nth P (y ∷ ys) (suc n) x h e = all_nth P ys n x h.1 e

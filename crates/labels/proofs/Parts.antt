@@ -1,7 +1,7 @@
 -- Lists in parts: what is joined, how long it is, and where each part stands.
 -- Assumes nothing.
 use Rattle.std.proofs.Common.{◌≡◌, ℕ, ◌+◌, ◌-◌, ◌<◌, ◌≤◌, List, [], ◌∷◌, ◌++◌, length, get_or, take, drop, set, sym, refl, ap, ◌∙◌, subst, inl, inr, arith}
-use Rattle.std.specs.List.{AllByRecursion as All}
+use Rattle.std.specs.List.{AllByRecursion}
 use Rattle.std.proofs.ByRecursion.{All-get_or}
 use Rattle.std.proofs.lemmas.Bool.{cases_eq}
 use Rattle.std.proofs.lemmas.List.{append-nil, append_assoc, take-append-drop, take_more, take_all, take_at, length-append, length_push, drop_at, take-append-le, get_or-set_same, get_or-set_other, length-take-le, length-drop, get_or-drop, get_or-take}
@@ -85,7 +85,7 @@ module _ {X : Type 0} where
       }
 
   -- what each element of a part has, the element at a place of it has
-  pub part_has : (P : X → Type 0) (begins : List ℕ) (xs : List X) (n : ℕ) (part : List X) → Part begins xs n part → All P part → (e : ℕ) (d : X) → get_or begins n 0 ≤ e → e < get_or begins (n + 1) 0 → P (get_or xs e d)
+  pub part_has : (P : X → Type 0) (begins : List ℕ) (xs : List X) (n : ℕ) (part : List X) → Part begins xs n part → AllByRecursion P part → (e : ℕ) (d : X) → get_or begins n 0 ≤ e → e < get_or begins (n + 1) 0 → P (get_or xs e d)
   part_has P begins xs n part h all e d lo hi =
       let a = get_or begins n 0 in
       let b = get_or begins (n + 1) 0 in

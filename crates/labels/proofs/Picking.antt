@@ -1,7 +1,7 @@
 -- Picking one after another gives the front: what `front_of` keeps, and what is picked after the first of it.
 -- Assumes nothing.
 use Rattle.std.proofs.Common.{◌≡◌, ℕ, ◌+◌, ◌<◌, Bool, true, false, not, ◌&&◌, ◌⊎◌, List, [], ◌∷◌, ◌++◌, length, get_or, take, drop, Some, None, Option, sym, refl, ap, ◌∙◌, subst, inl, inr}
-use Rattle.std.specs.List.{AllByRecursion as All, slice_get}
+use Rattle.std.specs.List.{AllByRecursion, slice_get}
 use Rattle.std.proofs.lemmas.List.{append-nil, append_assoc, take-append-drop, drop_more, take_all}
 use Rattle.std.proofs.lemmas.Option.{slice_get-get_or, slice_get_past}
 use Rattle.std.proofs.lemmas.Bool.{cases_Bool, cases_lt, both_ways, or_parts, or_from, or_right, not-false, and_from}
@@ -44,8 +44,8 @@ module _ {C B : Type 0} (k : Kind C) where
 
   -- each of ys is covered by es, and each of es is the first of its cost in ys
   pub record Kept (ys es : List (Entry C B)) : Type 0 where
-    pub covers : All (λ y. Covered k es y.cost) ys
-    pub first : All (FirstIn ys) es
+    pub covers : AllByRecursion (λ y. Covered k es y.cost) ys
+    pub first : AllByRecursion (FirstIn ys) es
 
   not_covered : (es : List (Entry C B)) (c : C) → Covered k es c → Uncovered k es c → ⊥
   not_covered [] c h u = h
@@ -63,7 +63,7 @@ module _ {C B : Type 0} (k : Kind C) where
   first_more (y ∷ ys) x e (inl s) = inl s
   first_more (y ∷ ys) x e (inr p) = inr (p.0, first_more ys x e p.1)
 
-  first_last : (ys : List (Entry C B)) (x : Entry C B) → All (λ y. y.cost ≡ x.cost → ⊥) ys → FirstIn (ys ++ x ∷ []) x
+  first_last : (ys : List (Entry C B)) (x : Entry C B) → AllByRecursion (λ y. y.cost ≡ x.cost → ⊥) ys → FirstIn (ys ++ x ∷ []) x
   first_last [] x h = inl refl
   first_last (y ∷ ys) x h = inr (h.0, first_last ys x h.1)
 
@@ -96,7 +96,7 @@ module _ {C B : Type 0} (k : Kind C) (laws : Laws k) (skip : C → Bool) where
   abbrev Late : Entry C B → Entry C B → Type 0
   Late f x = (skip x.cost ≡ true) ⊎ ((x.cost ≡ f.cost) ⊎ Before k f.cost x.cost)
 
-  picked_stays : (f : Entry C B) (xs : List (Entry C B)) → All (Late f) xs → picked k skip (Some f) xs ≡ Some f
+  picked_stays : (f : Entry C B) (xs : List (Entry C B)) → AllByRecursion (Late f) xs → picked k skip (Some f) xs ≡ Some f
   picked_stays f [] h = refl
   picked_stays f (x ∷ xs) h =
       let stays : better k skip (Some f) x ≡ Some f = elim (cases_Bool (skip x.cost)) [
@@ -124,7 +124,7 @@ module _ {C B : Type 0} (k : Kind C) (laws : Laws k) (skip : C → Bool) where
     | inr e ↦ rw e h
   ]
 
-  picked_is : (f : Entry C B) (o : Option (Entry C B)) (xs : List (Entry C B)) → skip f.cost ≡ false → After f o → FirstIn k xs f → All (Late f) xs → picked k skip o xs ≡ Some f
+  picked_is : (f : Entry C B) (o : Option (Entry C B)) (xs : List (Entry C B)) → skip f.cost ≡ false → After f o → FirstIn k xs f → AllByRecursion (Late f) xs → picked k skip o xs ≡ Some f
   picked_is f o [] free a fi h = absurd fi
   picked_is f o (x ∷ xs) free a (inl s) h =
       let here : better k skip o x ≡ Some f = ap (better k skip o) s ∙ (rw free (comes f o a)) in
@@ -138,13 +138,13 @@ module _ {C B : Type 0} (k : Kind C) (laws : Laws k) (skip : C → Bool) where
     ])) p.1 h.1)
   ]
 
-  picked_none : (xs : List (Entry C B)) → All (λ x. skip x.cost ≡ true) xs → picked k skip None xs ≡ None
+  picked_none : (xs : List (Entry C B)) → AllByRecursion (λ x. skip x.cost ≡ true) xs → picked k skip None xs ≡ None
   picked_none [] h = refl
   picked_none (x ∷ xs) h = rw h.0 (picked_none xs h.1)
 
 module _ {C B : Type 0} (k : Kind C) (laws : Laws k) where
   -- what some of the rest of a front covers stands after its first
-  late_rest : (f : Entry C B) (rs : List (Entry C B)) (c : C) → All (λ r. Before k f.cost r.cost × (k.at_most f.cost r.cost ≡ false)) rs → Covered k rs c → Before k f.cost c
+  late_rest : (f : Entry C B) (rs : List (Entry C B)) (c : C) → AllByRecursion (λ r. Before k f.cost r.cost × (k.at_most f.cost r.cost ≡ false)) rs → Covered k rs c → Before k f.cost c
   late_rest f [] c h cov = absurd cov
   late_rest f (r ∷ rs) c h (inl m) = elim (at_most_cases k laws r.cost c m) [
     | inl s ↦ subst (λ z. Before k f.cost z) (sym s) h.0.0
@@ -161,11 +161,11 @@ module _ {C B : Type 0} (k : Kind C) (laws : Laws k) where
   ranked_back [] rs h = h
   ranked_back (e ∷ es) rs h = ranked_back es rs h.1
 
-  all_back : (P : Entry C B → Type 0) (es rs : List (Entry C B)) → All P (es ++ rs) → All P rs
+  all_back : (P : Entry C B → Type 0) (es rs : List (Entry C B)) → AllByRecursion P (es ++ rs) → AllByRecursion P rs
   all_back P [] rs h = h
   all_back P (e ∷ es) rs h = all_back P es rs h.1
 
-  all_part : (P : Entry C B → Type 0) (es rs : List (Entry C B)) → All P (es ++ rs) → All P es
+  all_part : (P : Entry C B → Type 0) (es rs : List (Entry C B)) → AllByRecursion P (es ++ rs) → AllByRecursion P es
   all_part P [] rs h = tt
   all_part P (e ∷ es) rs h = (h.0, all_part P es rs h.1)
 
@@ -183,7 +183,7 @@ module _ {C B : Type 0} (k : Kind C) (laws : Laws k) where
   last_before o (e ∷ es) f rs h r = last_before (Some e.cost) es f rs (all_back _ es (f ∷ rs) r.0).0.0 r.1
 
   -- what comes after the last of a front is none of it
-  not_behind : (b c : C) (es : List (Entry C B)) → (b ≡ c) ⊎ Before k c b → All (λ e. Before k c e.cost × (k.at_most c e.cost ≡ false)) es → comes_after k (last_cost k (Some b) es) c ≡ false
+  not_behind : (b c : C) (es : List (Entry C B)) → (b ≡ c) ⊎ Before k c b → AllByRecursion (λ e. Before k c e.cost × (k.at_most c e.cost ≡ false)) es → comes_after k (last_cost k (Some b) es) c ≡ false
   not_behind b c [] (inl e) h = rw e (not_self k laws c)
   not_behind b c [] (inr l) h = not_back k laws c b l
   not_behind b c (e ∷ es) o h = not_behind e.cost c es (inr h.0.0) h.1
@@ -204,12 +204,12 @@ module _ {C B : Type 0} (k : Kind C) (laws : Laws k) where
       ]
   not_dominator (x ∷ xs) e c (inr p) h le = not_dominator xs e c p.1 (or_parts _ _ h).1 le
 
-  due_equal : (xs es : List (Entry C B)) (c : C) → All (FirstIn k xs) es → dominated k xs c ≡ false → Covered k es c → Any (λ e. e.cost ≡ c) es
+  due_equal : (xs es : List (Entry C B)) (c : C) → AllByRecursion (FirstIn k xs) es → dominated k xs c ≡ false → Covered k es c → Any (λ e. e.cost ≡ c) es
   due_equal xs [] c fi h cov = cov
   due_equal xs (e ∷ es) c fi h (inl le) = inl (not_dominator xs e c fi.0 h le)
   due_equal xs (e ∷ es) c fi h (inr m) = inr (due_equal xs es c fi.1 h m)
 
-  after_rest : (f : Entry C B) (rs : List (Entry C B)) (c : C) → All (λ r. Before k f.cost r.cost × (k.at_most f.cost r.cost ≡ false)) rs → Any (λ r. r.cost ≡ c) rs → Before k f.cost c
+  after_rest : (f : Entry C B) (rs : List (Entry C B)) (c : C) → AllByRecursion (λ r. Before k f.cost r.cost × (k.at_most f.cost r.cost ≡ false)) rs → Any (λ r. r.cost ≡ c) rs → Before k f.cost c
   after_rest f [] c h m = absurd m
   after_rest f (r ∷ rs) c h (inl e) = subst (λ z. Before k f.cost z) e h.0.0
   after_rest f (r ∷ rs) c h (inr m) = after_rest f rs c h.1 m
@@ -251,7 +251,7 @@ module _ {C B : Type 0} (k : Kind C) (laws : Laws k) where
           ])
     ]
 
-    next_undominated : (ys : List (Entry C B)) → All (λ y. Covered k (es ++ f ∷ rs) y.cost) ys → dominated k ys f.cost ≡ false
+    next_undominated : (ys : List (Entry C B)) → AllByRecursion (λ y. Covered k (es ++ f ∷ rs) y.cost) ys → dominated k ys f.cost ≡ false
     next_undominated [] h = refl
     next_undominated (y ∷ ys) h =
         or_from _ _ (elim (cases_Bool (k.at_most y.cost f.cost)) [
@@ -280,7 +280,7 @@ module _ {C B : Type 0} (k : Kind C) (laws : Laws k) where
           | inr (inr m) ↦ inr (after_rest f rs x.cost (ranked_back es (f ∷ rs) ranked).0 m)
         ]
 
-  all_out : (xs : List (Entry C B)) (ys : List (Entry C B)) → All (λ y. Covered k (front_of k xs) y.cost) ys → All (λ y. out_of_turn k (last_cost k None (front_of k xs)) xs y.cost ≡ true) ys
+  all_out : (xs : List (Entry C B)) (ys : List (Entry C B)) → AllByRecursion (λ y. Covered k (front_of k xs) y.cost) ys → AllByRecursion (λ y. out_of_turn k (last_cost k None (front_of k xs)) xs y.cost ≡ true) ys
   all_out xs [] h = tt
   all_out xs (y ∷ ys) h = (
     elim (cases_Bool (out_of_turn k (last_cost k None (front_of k xs)) xs y.cost)) [

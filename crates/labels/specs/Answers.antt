@@ -2,7 +2,7 @@
 -- Assumes nothing.
 use Rattle.std.specs.Prelude.{◌≡◌, ℕ, suc, ◌<◌, ◌≤◌, cond, List, reverse, length, Some, None, Ok, Err, Option, Result, ◌==◌, nat_le, nat_lt, slice_index}
 use Rattle.std.specs.Option.{option_or, option_map}
-use Rattle.std.specs.List.{AllByRecursion as All, slice_get}
+use Rattle.std.specs.List.{AllByRecursion, slice_get}
 use Rattle.rules.specs.Fronts.{Front}
 use Rattle.rules.specs.Instances.{Instance, places, cart_count, start_of, goal_of}
 use Rattle.rules.specs.Walks.{Walk, place_at, Permitted}
@@ -64,9 +64,9 @@ walk_of (Err e) was = was
 
 -- every line and place that an instance names is there
 pub record Inside {C : Type 0} (i : Instance C) : Type 0 where
-  pub lines : All (All (λ m. m.line < length i.tariff)) i.moves
-  pub starts : All (λ c. c.start < places i) i.carts
-  pub goals : All (λ c. c.goal < places i) i.carts
+  pub lines : AllByRecursion (AllByRecursion (λ m. m.line < length i.tariff)) i.moves
+  pub starts : AllByRecursion (λ c. c.start < places i) i.carts
+  pub goals : AllByRecursion (λ c. c.goal < places i) i.carts
 
 module _ {C : Type 0} (a : Asked C) where
   -- c is the cost of some walk that the constraints permit the cart

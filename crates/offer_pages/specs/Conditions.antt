@@ -1,7 +1,7 @@
 -- What an instance has to keep to have a page of offers.
 -- Assumes nothing.
 use Rattle.std.specs.Prelude.{ℕ, ◌<◌, ◌≤◌, [], length}
-use Rattle.std.specs.List.{AllByRecursion as All}
+use Rattle.std.specs.List.{AllByRecursion}
 use Rattle.rules.specs.Instances.{Instance, places, cart_count}
 use Rattle.rules.specs.Offers.{label_count}
 use Rattle.offer_pages.specs.declared.fault.Fault.{Fault}
@@ -13,13 +13,13 @@ module _ {C : Type 0} (i : Instance C) where
 
   -- each cart's start and goal are places of the floor
   abbrev pub OnFloor : Type 0
-  OnFloor = All (λ c. (c.start < places i) × (c.goal < places i)) i.carts
+  OnFloor = AllByRecursion (λ c. (c.start < places i) × (c.goal < places i)) i.carts
 
   -- the tariff has 1 to 255 lines, and each move's line is one of them
   pub record LinesThere : Type 0 where
     pub some : 1 ≤ length i.tariff
     pub few : length i.tariff ≤ 255
-    pub inside : All (All (λ m. m.line < length i.tariff)) i.moves
+    pub inside : AllByRecursion (AllByRecursion (λ m. m.line < length i.tariff)) i.moves
 
   -- no cart, alone, has above 2,048 labels
   abbrev pub LabelsFit : Type 0

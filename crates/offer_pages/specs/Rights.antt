@@ -1,7 +1,7 @@
 -- What the offers of a cart are, in the subject's terms.
 -- Assumes nothing.
 use Rattle.std.specs.Prelude.{◌≡◌, ℕ, suc, ◌<◌, ◌≤◌, List, [], map, reverse, length, slice_index}
-use Rattle.std.specs.List.{AllByRecursion as All}
+use Rattle.std.specs.List.{AllByRecursion}
 use Rattle.rules.specs.Fronts.{Front}
 use Rattle.rules.specs.Instances.{Instance, cart_count}
 use Rattle.rules.specs.Walks.{Walk, place_at}
@@ -22,7 +22,7 @@ module _ {C : Type 0} (i : Instance C) (cart : ℕ) where
   -- the offers have just the costs of the cart's walks that no walk of it undercuts, each once and in the kind's order, and each has a walk
   pub record RightOffers (os : List (Label C)) : Type 0 where
     pub costs : Front i.kind WalkCost (map (λ o. o.cost) os)
-    pub walks : All Shows os
+    pub walks : AllByRecursion Shows os
 
 -- each cart's offers are right
 abbrev pub AllRight : {C : Type 0} → Instance C → Type 0

@@ -1,5 +1,5 @@
 ghost use Rattle.std.specs.Prelude.{◌<◌, [], Decides, slice_index_or};
-ghost use Rattle.std.specs.List.{AllByRecursion as All};
+ghost use Rattle.std.specs.List.{AllByRecursion};
 ghost use Rattle.offer_pages.specs.Conditions.{OnFloor, LinesThere};
 ghost use Rattle.offer_pages.specs.Views.{meant};
 
@@ -26,7 +26,7 @@ pub fn on_floor<F: Floor, C: CostKind>(site: &SiteView<'_, F, C>) -> bool
 
 // Whether each move from a place pays a line below `lines`.
 fn pays_below<F: Floor>(floor: &F, place: u8, lines: usize) -> bool
-    ensures { Decides result (All (λ m. m.line < lines) (slice_index_or (F.Floor.moves floor.now) place [])) }
+    ensures { Decides result (AllByRecursion (λ m. m.line < lines) (slice_index_or (F.Floor.moves floor.now) place [])) }
 {
     for number in 0..floor.move_count(place) {
         let Some(step) = floor.step(place, number) else {

@@ -3,7 +3,7 @@ use Rattle.std.specs.Prelude.{◌≡◌, ℕ, ◌+◌, ◌^◌, ◌<◌, ◌⊎�
 use Rattle.std.proofs.Common.{ap, sym, subst, ◌∙◌, inl, inr, ⊎_elim, arith}
 use Rattle.std.specs.Str.Parse.{digits_value}
 use Rattle.std.specs.Int.{IsInRange}
-use Rattle.std.specs.List.{AllByRecursion as All}
+use Rattle.std.specs.List.{AllByRecursion}
 use Rattle.std.proofs.lemmas.Fmt.{digits_value-decimal, decimal_injective}
 use Rattle.std.proofs.ByRecursion.{All-append, All-weaker}
 use Rattle.costs.specs.Totals.{total_same}
@@ -22,7 +22,7 @@ use Rattle.prices.specs.Saying.{not_within}
 use Rattle.digits.proofs.NumberReads.{digits_own, decimal_base_ten}
 
 -- digits have no space and no newline among them
-digits_without : (mark : ℕ) (bs : List ℕ) → mark < 48 → All (IsInRange 48 57) bs → Without mark bs
+digits_without : (mark : ℕ) (bs : List ℕ) → mark < 48 → AllByRecursion (IsInRange 48 57) bs → Without mark bs
 digits_without mark bs h ds = All-weaker (IsInRange 48 57) (λ b. b ≢ mark) (λ b d e. omega arith) bs ds
 
 total_small : (c : Pair Total Worst) → c.first.value < 2 ^ 64

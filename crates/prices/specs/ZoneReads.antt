@@ -2,7 +2,7 @@
 use Rattle.std.specs.Prelude.{◌≡◌, ℕ, zero, suc, ◌+◌, ◌*◌, ◌/◌, ◌%◌, ◌^◌, ◌<◌, ◌≤◌, List, [], ◌∷◌, ◌++◌, length, take, ◌≢◌, slice_index, refl}
 use Rattle.std.proofs.Common.{ap, sym, subst, ◌∙◌, pow-suc, add-one, arith, lit<}
 use Rattle.std.proofs.Math.Nat.{pow-le-pow_right}
-use Rattle.std.specs.List.{AllByRecursion as All}
+use Rattle.std.specs.List.{AllByRecursion}
 use Rattle.std.proofs.ByRecursion.{All-get_or, All-push}
 use Rattle.std.proofs.lemmas.List.{take_more, take_all}
 use Rattle.costs.specs.Texts.{hex_digit, hex_digits}
@@ -33,14 +33,14 @@ hex_digits_more bs i n d h was small is =
     take_more bs i 0 h ∙ ap (λ t. t ++ (slice_index bs i ∷ [])) was ∙ ap (λ b. hex_digits i n ++ (b ∷ [])) is ∙ push_hex i n d small ∙
     ap (λ k. hex_digits k (n * 16 + d)) (sym (add-one i))
 
-all_hex : (k n : ℕ) → All IsHex (hex_digits k n)
+all_hex : (k n : ℕ) → AllByRecursion IsHex (hex_digits k n)
 unfolding hex_digits
 all_hex zero n = tt
 all_hex (suc k) n = All-push IsHex (hex_digits k (n / 16)) (hex_digit (n % 16)) (all_hex k (n / 16)) (n % 16, omega arith, refl)
 
 -- a line of zones has a digit at each place
 hex_at : (bs : List ℕ) (k n i : ℕ) → bs ≡ hex_digits k n → i < length bs → IsHex (slice_index bs i)
-hex_at bs k n i e h = All-get_or IsHex bs i 0 h (subst (λ (t : List ℕ). All IsHex t) (sym e) (all_hex k n))
+hex_at bs k n i e h = All-get_or IsHex bs i 0 h (subst (λ (t : List ℕ). AllByRecursion IsHex t) (sym e) (all_hex k n))
 
 -- what the digits so far write, in as many digits
 pub hex_bound : (i n d : ℕ) → n < 16 ^ i → d < 16 → n * 16 + d < 16 ^ (i + 1)

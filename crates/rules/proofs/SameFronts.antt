@@ -3,7 +3,7 @@
 use Rattle.std.proofs.Common.{◌≡◌, ℕ, zero, suc, List, [], ◌∷◌, sym, refl, ap, ◌∙◌, subst, inl, inr, arith}
 use mathlib.Core.Option.{some}
 use lib.ListN.{get_elem?}
-use Rattle.std.specs.List.{AllByRecursion as All}
+use Rattle.std.specs.List.{AllByRecursion}
 use Rattle.std.proofs.ByRecursion.{all-has}
 use Rattle.rules.specs.Kinds.{Kind, Laws, Before}
 use Rattle.rules.specs.Fronts.{Ascends, Front, Entry}
@@ -60,7 +60,7 @@ module _ {C : Type 0} (k : Kind C) (laws : Laws k) where
 
 -- entries with the same costs are the same, where those of one cost are
 pub entries_same : {C B : Type 0} (P Q : Entry C B → Type 0) → ((e f : Entry C B) → P e → Q f → e.cost ≡ f.cost → e ≡ f) → (es fs : List (Entry C B)) →
-    All P es → All Q fs → costs es ≡ costs fs → es ≡ fs
+    AllByRecursion P es → AllByRecursion Q fs → costs es ≡ costs fs → es ≡ fs
 entries_same P Q one [] [] p q same = refl
 entries_same P Q one [] (f ∷ fs) p q same = let z : ◌≡◌ {A = ℕ} 0 1 = cc in absurd (omega arith)
 entries_same P Q one (e ∷ es) [] p q same = let z : ◌≡◌ {A = ℕ} 0 1 = cc in absurd (omega arith)

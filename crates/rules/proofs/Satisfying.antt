@@ -1,7 +1,7 @@
 -- Satisfying constraints: a cart does exactly when the tests allow each of its places and moves; and it stands where they allow the goal tick by tick.
 -- Assumes nothing.
 use Rattle.std.proofs.Common.{◌≡◌, ℕ, zero, suc, ◌+◌, ◌<◌, ◌≤◌, Bool, true, false, not, List, [], ◌∷◌, refl, inl, inr, arith}
-use Rattle.std.specs.List.{AllByRecursion as All}
+use Rattle.std.specs.List.{AllByRecursion}
 use Rattle.std.proofs.ByRecursion.{All-weaker}
 use Rattle.std.proofs.lemmas.Bool.{or_from, or_parts, not-true, not_from_false, and_parts, and_from, cases_eq}
 use Rattle.std.proofs.lemmas.Bool.Decides.{nat_tests}
@@ -9,7 +9,7 @@ use Rattle.rules.specs.Instances.{Instance, goal_of}
 use Rattle.rules.specs.Walks.{Constraint, vertex, edge, Satisfies, forbids_place, forbids_move, any_of}
 use Rattle.rules.specs.Offers.{may_be, may_go, may_stand}
 
-any_of_false : (f : Constraint → Bool) (bans : List Constraint) → All (λ b. f b ≡ false) bans → any_of f bans ≡ false
+any_of_false : (f : Constraint → Bool) (bans : List Constraint) → AllByRecursion (λ b. f b ≡ false) bans → any_of f bans ≡ false
 any_of_false f [] h = refl
 any_of_false f (b ∷ bs) h = or_from (f b) (any_of f bs) h.0 (any_of_false f bs h.1)
 
@@ -34,7 +34,7 @@ module _ (cart : ℕ) (at : ℕ → ℕ) (last moves : ℕ) where
   spared_satisfies (edge c u v s) places goes = λ same h from to. let spared = goes s h in grind (arith, nat_tests)
 
   spared_all : (bans : List Constraint) → ((t : ℕ) → t ≤ last → any_of (bars_place t) bans ≡ false) →
-      ((t : ℕ) → t < moves → any_of (bars_move t) bans ≡ false) → All (Satisfies cart at last moves) bans
+      ((t : ℕ) → t < moves → any_of (bars_move t) bans ≡ false) → AllByRecursion (Satisfies cart at last moves) bans
   spared_all [] places goes = tt
   spared_all (b ∷ bs) places goes =
       let at_place = λ (t : ℕ) (h : t ≤ last). or_parts (bars_place t b) (any_of (bars_place t) bs) (places t h) in
@@ -44,7 +44,7 @@ module _ (cart : ℕ) (at : ℕ → ℕ) (last moves : ℕ) where
 module _ {C : Type 0} (i : Instance C) (cart : ℕ) (bans : List Constraint) where
   module _ (at : ℕ → ℕ) (last moves : ℕ) where
     abbrev AllSatisfied : Type 0
-    AllSatisfied = All (Satisfies cart at last moves) bans
+    AllSatisfied = AllByRecursion (Satisfies cart at last moves) bans
 
     none_bars : (f : Constraint → Bool) → ((b : Constraint) → Satisfies cart at last moves b → f b ≡ false) → AllSatisfied → not (any_of f bans) ≡ true
     none_bars f spared p = not_from_false (any_of f bans) (any_of_false f bans (All-weaker (Satisfies cart at last moves) (λ b. f b ≡ false) spared bans p))

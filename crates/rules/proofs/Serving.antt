@@ -3,7 +3,7 @@
 use Rattle.std.proofs.Common.{◌≡◌, ℕ, suc, ◌-◌, ◌<◌, ◌≤◌, true, cond, ◌&&◌, eqb, ◌⊎◌, List, [], ◌∷◌, ◌++◌, map, get_or, sym, refl, ap, ◌∙◌, subst, inl, inr, arith}
 use mathlib.Core.Option.{some}
 use lib.ListN.{get_elem?}
-use Rattle.std.specs.List.{range_with_len, AllByRecursion as All}
+use Rattle.std.specs.List.{range_with_len, AllByRecursion}
 use Rattle.std.proofs.lemmas.Bool.{cases_eq, and_parts, and_from, eqb-true, eq-eqb}
 use Rattle.rules.specs.Kinds.{AtMost, Undominated}
 use Rattle.rules.specs.Instances.{Instance, Move, Sound, places, cart_count, moves_of, goal_of, price}
@@ -180,7 +180,7 @@ module _ {C : Type 0} (i : Instance C) (cart : ℕ) (bans : List Constraint) whe
               by_place_and_move e (ending u n x) (earliest l' (ending u n x) (subst (λ q. Candidate t q l' (ending u n x)) to c) as_cheap);
         }
 
-    labels_serving : (t p : ℕ) → All (Serving i cart bans (kept i cart bans) t p) (kept i cart bans (suc t) p)
+    labels_serving : (t p : ℕ) → AllByRecursion (Serving i cart bans (kept i cart bans) t p) (kept i cart bans (suc t) p)
     labels_serving t p =
         let labels = kept i cart bans (suc t) p in
         let Run : Label C → Type 0 = IsRun i cart bans (suc t) p in
@@ -223,7 +223,7 @@ module _ {C : Type 0} (i : Instance C) (cart : ℕ) (bans : List Constraint) whe
           earliest = λ w p same. low w.arrival (omega arith) (omega (arith, w.in_time)) (like_arrival o least w p same);
         }
 
-    offers_serving : All (ServingWalk i cart bans (kept i cart bans)) (offers i cart bans)
+    offers_serving : AllByRecursion (ServingWalk i cart bans (kept i cart bans)) (offers i cart bans)
     offers_serving =
         let Foremost : Label C → Type 0 = λ o. First (SameCost o) (arrivals i cart bans) o in
         let Listed : Label C → Type 0 = λ o. Among (offer_costs i cart bans) o.cost in

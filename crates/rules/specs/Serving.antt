@@ -3,7 +3,7 @@
 use Rattle.std.specs.Prelude.{◌≡◌, ℕ, suc, ◌<◌, ◌≤◌, ◌⊎◌, List, [], ◌∷◌, map}
 use Rattle.std.proofs.Math.Option.{some}
 use Rattle.std.proofs.Math.ListN.{get_elem?}
-use Rattle.std.specs.List.{AllByRecursion as All}
+use Rattle.std.specs.List.{AllByRecursion}
 use Rattle.rules.specs.Fronts.{Front}
 use Rattle.rules.specs.Instances.{Instance, Move, Sound, cart_count, moves_of, start_of, goal_of}
 use Rattle.rules.specs.Walks.{Constraint, Walk, Permitted, Beginning, Obeying, extended_by}
@@ -64,10 +64,10 @@ module _ {C : Type 0} (i : Instance C) (cart : ℕ) (bans : List Constraint) whe
   -- of two labels of a place the one with the lower number has the earlier cost
   pub record Choices (labels : ℕ → ℕ → List (Label C)) (on_offer : List (Label C)) : Type 0 where
     pub kept_exact : (t p : ℕ) → Front i.kind (Reached t p) (map (λ l. l.cost) (labels t p))
-    pub kept_at_start : (p : ℕ) → All (λ l. (p ≡ start_of i cart) × (l ≡ record { cost = i.kind.zero; item = start_of i cart ∷ [] })) (labels 0 p)
-    pub kept_serving : (t p : ℕ) → All (Serving labels t p) (labels (suc t) p)
+    pub kept_at_start : (p : ℕ) → AllByRecursion (λ l. (p ≡ start_of i cart) × (l ≡ record { cost = i.kind.zero; item = start_of i cart ∷ [] })) (labels 0 p)
+    pub kept_serving : (t p : ℕ) → AllByRecursion (Serving labels t p) (labels (suc t) p)
     pub offers_exact : Front i.kind (Offered i cart bans) (map (λ o. o.cost) on_offer)
-    pub offers_serving : All (ServingWalk labels) on_offer
+    pub offers_serving : AllByRecursion (ServingWalk labels) on_offer
 
 -- for every cart of a sound instance and whatever constraints, the labels kept and the offers follow the rules, and no other labels and offers do
 abbrev pub ChoicesRight : Type 0 → Type 0

@@ -1,7 +1,7 @@
 -- Numbers read off a line, one after another. Assumes nothing.
 use Rattle.std.proofs.Common.{◌≡◌, ℕ, ◌-◌, ◌<◌, ◌≤◌, List, [], ◌∷◌, ◌++◌, length, get_or, take, drop, Some, None, Err, decimal, Option, sym, refl, ap, ◌∙◌, subst, arith}
 use Rattle.std.specs.Str.Parse.{digits_value}
-use Rattle.std.specs.List.{AllByRecursion as All}
+use Rattle.std.specs.List.{AllByRecursion}
 use Rattle.std.proofs.lemmas.Fmt.{digits_value-decimal}
 use Rattle.std.proofs.ByRecursion.{All-weaker}
 use Rattle.std.proofs.lemmas.List.{append-nil, drop_more, take_rest, drop_at, length-append}
@@ -26,11 +26,11 @@ first_byte bs b some e = drop_more bs 0 0 some ∙ ap (λ x. x ∷ drop 1 bs) e 
 pub tail_same : (a b : ℕ) (xs ys : List ℕ) → a ∷ xs ≡ b ∷ ys → xs ≡ ys
 tail_same a b xs ys e = cc
 
-decimal-without : (n : ℕ) → n ≤ 65535 → All (λ x. x ≡ 32 → ⊥) (decimal n)
+decimal-without : (n : ℕ) → n ≤ 65535 → AllByRecursion (λ x. x ≡ 32 → ⊥) (decimal n)
 decimal-without n h = All-weaker (λ x. 48 ≤ x) (λ x. x ≡ 32 → ⊥) (λ x k e. omega arith) (decimal n) (from_zero n (omega arith))
 
 -- what stands before the first c can be read off
-pub until : (c : ℕ) (xs ys r s : List ℕ) → All (λ x. x ≡ c → ⊥) xs → All (λ x. x ≡ c → ⊥) ys → xs ++ (c ∷ r) ≡ ys ++ (c ∷ s) → xs ≡ ys
+pub until : (c : ℕ) (xs ys r s : List ℕ) → AllByRecursion (λ x. x ≡ c → ⊥) xs → AllByRecursion (λ x. x ≡ c → ⊥) ys → xs ++ (c ∷ r) ≡ ys ++ (c ∷ s) → xs ≡ ys
 until c [] [] r s p q e = refl
 until c [] (y ∷ ys) r s p q e = let h : y ≡ c = cc in absurd (q.0 h)
 until c (x ∷ xs) [] r s p q e = let h : x ≡ c = cc in absurd (p.0 h)
@@ -38,7 +38,7 @@ until c (x ∷ xs) (y ∷ ys) r s p q e =
     let t : xs ++ (c ∷ r) ≡ ys ++ (c ∷ s) = cc in let k = until c xs ys r s p.1 q.1 t in cc
 
 -- a list with c in it is not without c
-pub not_without : (c : ℕ) (xs ys : List ℕ) → All (λ x. x ≡ c → ⊥) (xs ++ (c ∷ ys)) → ⊥
+pub not_without : (c : ℕ) (xs ys : List ℕ) → AllByRecursion (λ x. x ≡ c → ⊥) (xs ++ (c ∷ ys)) → ⊥
 not_without c [] ys h = h.0 refl
 not_without c (x ∷ xs) ys h = not_without c xs ys h.1
 

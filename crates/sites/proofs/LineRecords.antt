@@ -1,6 +1,6 @@
 -- A line read as a record: by its mark, and then the numbers that the mark asks for. Assumes nothing.
 use Rattle.std.proofs.Common.{◌≡◌, ℕ, ◌-◌, ◌<◌, ◌≤◌, cond, eqb, List, [], ◌∷◌, ◌++◌, length, get_or, take, drop, decimal, sym, refl, ap, ◌∙◌, subst, arith}
-use Rattle.std.specs.List.{AllByRecursion as All}
+use Rattle.std.specs.List.{AllByRecursion}
 use Rattle.std.proofs.ByRecursion.{All-append, All-weaker}
 use Rattle.std.proofs.lemmas.List.{append_assoc, drop_at, drop_more, length-append, take_rest}
 use Rattle.digits.specs.Splits.{Without}
@@ -31,7 +31,7 @@ count_is (Tariff t w) = refl
 count_is (Cart s g) = refl
 
 -- no record has the line whose mark is not followed by as many numbers as it asks for
-none_marked : (bs : List ℕ) (a b : ℕ) (rest : List ℕ) → bs ≡ a ∷ (b ∷ rest) → ((ns : List ℕ) → length ns ≡ count_of a → All (λ n. n ≤ 65535) ns → rest ≡ numbers_text ns → ⊥) → (r : Record) → Fitting r → bs ≡ line_text r → ⊥
+none_marked : (bs : List ℕ) (a b : ℕ) (rest : List ℕ) → bs ≡ a ∷ (b ∷ rest) → ((ns : List ℕ) → length ns ≡ count_of a → AllByRecursion (λ n. n ≤ 65535) ns → rest ≡ numbers_text ns → ⊥) → (r : Record) → Fitting r → bs ≡ line_text r → ⊥
 none_marked bs a b rest e none r fits f =
     let first : mark_first r ≡ a = cc in
     let tail : rest ≡ numbers_text (numbers r) = cc in
@@ -40,7 +40,7 @@ none_marked bs a b rest e none r fits f =
 pub none_one : (bs : List ℕ) (a b : ℕ) (rest : List ℕ) → count_of a ≡ 1 → bs ≡ a ∷ (b ∷ rest) → ((n : ℕ) → n ≤ 65535 → rest ≡ numbers_text (n ∷ []) → ⊥) → (r : Record) → Fitting r → bs ≡ line_text r → ⊥
 none_one bs a b rest one e none = none_marked bs a b rest e (λ ns l. go ns (l ∙ one))
   where
-    go : (ns : List ℕ) → length ns ≡ 1 → All (λ n. n ≤ 65535) ns → rest ≡ numbers_text ns → ⊥
+    go : (ns : List ℕ) → length ns ≡ 1 → AllByRecursion (λ n. n ≤ 65535) ns → rest ≡ numbers_text ns → ⊥
     go [] l h t = omega arith
     go (n ∷ []) l h t = none n h.0 t
     go (n ∷ (m ∷ ms)) l h t = omega arith
@@ -48,7 +48,7 @@ none_one bs a b rest one e none = none_marked bs a b rest e (λ ns l. go ns (l �
 pub none_two : (bs : List ℕ) (a b : ℕ) (rest : List ℕ) → count_of a ≡ 2 → bs ≡ a ∷ (b ∷ rest) → ((p : ℕ × ℕ) → (p.0 ≤ 65535) × (p.1 ≤ 65535) → rest ≡ numbers_text (p.0 ∷ (p.1 ∷ [])) → ⊥) → (r : Record) → Fitting r → bs ≡ line_text r → ⊥
 none_two bs a b rest two e none = none_marked bs a b rest e (λ ns l. go ns (l ∙ two))
   where
-    go : (ns : List ℕ) → length ns ≡ 2 → All (λ n. n ≤ 65535) ns → rest ≡ numbers_text ns → ⊥
+    go : (ns : List ℕ) → length ns ≡ 2 → AllByRecursion (λ n. n ≤ 65535) ns → rest ≡ numbers_text ns → ⊥
     go [] l h t = omega arith
     go (n ∷ []) l h t = omega arith
     go (n ∷ (m ∷ [])) l h t = none (n, m) (h.0, h.1.0) t
@@ -57,7 +57,7 @@ none_two bs a b rest two e none = none_marked bs a b rest e (λ ns l. go ns (l �
 pub none_three : (bs : List ℕ) (a b : ℕ) (rest : List ℕ) → count_of a ≡ 3 → bs ≡ a ∷ (b ∷ rest) → ((l : LaneRow) → (l.from ≤ 65535) × (l.to ≤ 65535) × (l.line ≤ 65535) → rest ≡ numbers_text (lane_numbers l) → ⊥) → (r : Record) → Fitting r → bs ≡ line_text r → ⊥
 none_three bs a b rest three e none = none_marked bs a b rest e (λ ns l. go ns (l ∙ three))
   where
-    go : (ns : List ℕ) → length ns ≡ 3 → All (λ n. n ≤ 65535) ns → rest ≡ numbers_text ns → ⊥
+    go : (ns : List ℕ) → length ns ≡ 3 → AllByRecursion (λ n. n ≤ 65535) ns → rest ≡ numbers_text ns → ⊥
     go [] l h t = omega arith
     go (n ∷ []) l h t = omega arith
     go (n ∷ (m ∷ [])) l h t = omega arith
@@ -65,7 +65,7 @@ none_three bs a b rest three e none = none_marked bs a b rest e (λ ns l. go ns 
     go (n ∷ (m ∷ (k ∷ (j ∷ js)))) l h t = omega arith
 
 -- no line has a newline in it
-numbers_plain : (ns : List ℕ) → All (λ n. n ≤ 65535) ns → Without 10 (numbers_text ns)
+numbers_plain : (ns : List ℕ) → AllByRecursion (λ n. n ≤ 65535) ns → Without 10 (numbers_text ns)
 numbers_plain [] h = tt
 numbers_plain (n ∷ ns) h = (
   (λ e. omega arith),

@@ -1,7 +1,7 @@
 -- A printed site says itself. Assumes nothing.
 use Rattle.std.proofs.Common.{◌≡◌, ℕ, ◌≤◌, List, [], ◌∷◌, ◌++◌, map, sym, refl, ap, ◌∙◌, subst, arith}
 use native.Mathlib.Nat.{min-eq_left}
-use Rattle.std.specs.List.{flat_map, AllByRecursion as All}
+use Rattle.std.specs.List.{flat_map, AllByRecursion}
 use Rattle.std.proofs.lemmas.List.{append_assoc, append-nil}
 use Rattle.rules.proofs.Members.{all_of_map}
 use Rattle.costs.specs.declared.pair.Pair.{Pair}
@@ -20,15 +20,15 @@ joined_none : {X Y Z : Type 0} (f : Y → List Z) (g : X → Y) → ((x : X) →
 joined_none f g e [] = refl
 joined_none f g e (x ∷ xs) = ap (λ t. t ++ flat_map f (map g xs)) (e x) ∙ joined_none f g e xs
 
-joined_one : {X Y : Type 0} (f : Y → List X) (g : X → Y) (P : X → Type 0) → ((x : X) → P x → f (g x) ≡ x ∷ []) → (xs : List X) → All P xs → flat_map f (map g xs) ≡ xs
+joined_one : {X Y : Type 0} (f : Y → List X) (g : X → Y) (P : X → Type 0) → ((x : X) → P x → f (g x) ≡ x ∷ []) → (xs : List X) → AllByRecursion P xs → flat_map f (map g xs) ≡ xs
 joined_one f g P e [] h = refl
 joined_one f g P e (x ∷ xs) h = ap (λ t. t ++ flat_map f (map g xs)) (e x h.0) ∙ ap (λ t. x ∷ t) (joined_one f g P e xs h.1)
 
-all_left : {X : Type 0} (P : X → Type 0) (xs ys : List X) → All P (xs ++ ys) → All P xs × All P ys
+all_left : {X : Type 0} (P : X → Type 0) (xs ys : List X) → AllByRecursion P (xs ++ ys) → AllByRecursion P xs × AllByRecursion P ys
 all_left P [] ys h = (tt, h)
 all_left P (x ∷ xs) ys h = let k = all_left P xs ys h.1 in ((h.0, k.0), k.1)
 
-all_any : {X : Type 0} (xs : List X) → All (λ x. Unit {0}) xs
+all_any : {X : Type 0} (xs : List X) → AllByRecursion (λ x. Unit {0}) xs
 all_any [] = tt
 all_any (x ∷ xs) = (tt, all_any xs)
 
@@ -58,8 +58,8 @@ module _ (s : SiteData) where
       let d = joined_one carts_in cart_record (λ c. Unit {0}) (λ c h. refl) s.carts (all_any s.carts) in
       rest_of carts_in ∙ (λ i. a i ++ (b i ++ d i))
 
-  module _ (fits : All Fitting (site_records s)) where
-    tariff_fits : All (λ c. Fitting (tariff_record c)) s.tariff
+  module _ (fits : AllByRecursion Fitting (site_records s)) where
+    tariff_fits : AllByRecursion (λ c. Fitting (tariff_record c)) s.tariff
     tariff_fits = all_of_map Fitting tariff_record s.tariff (all_left Fitting (map tariff_record s.tariff) _ (all_left Fitting (map Lane s.lanes) _ fits.1.1).1).0
 
     tariff_back : (said (site_records s)).tariff ≡ s.tariff
@@ -82,7 +82,7 @@ may_follow last (Tariff t w) k a b = (a, b)
 may_follow last (Cart s g) k a b = (a, b)
 
 -- records of one rank, and then others
-run : (k : ℕ) (done rs rest : List Record) → 3 ≤ k → 2 ≤ last_rank done → last_rank done ≤ k → All (λ r. rank r ≡ k) rs → All Fitting rs → ((past : List Record) → 2 ≤ last_rank past → last_rank past ≤ k → EachAfter Placed past rest) → EachAfter Placed done (rs ++ rest)
+run : (k : ℕ) (done rs rest : List Record) → 3 ≤ k → 2 ≤ last_rank done → last_rank done ≤ k → AllByRecursion (λ r. rank r ≡ k) rs → AllByRecursion Fitting rs → ((past : List Record) → 2 ≤ last_rank past → last_rank past ≤ k → EachAfter Placed past rest) → EachAfter Placed done (rs ++ rest)
 run k done [] rest n low high same fits then = then done low high
 run k done (r ∷ rs) rest n low high same fits then =
     let e = last_push done r in (
@@ -90,12 +90,12 @@ run k done (r ∷ rs) rest n low high same fits then =
       run k (done ++ r ∷ []) rs rest n (omega (arith, same.0)) (omega (arith, same.0)) same.1 fits.1 then,
     )
 
-rank-map : {X : Type 0} (k : ℕ) (g : X → Record) → ((x : X) → rank (g x) ≡ k) → (xs : List X) → All (λ r. rank r ≡ k) (map g xs)
+rank-map : {X : Type 0} (k : ℕ) (g : X → Record) → ((x : X) → rank (g x) ≡ k) → (xs : List X) → AllByRecursion (λ r. rank r ≡ k) (map g xs)
 rank-map k g e [] = tt
 rank-map k g e (x ∷ xs) = (e x, rank-map k g e xs)
 
-module _ (s : SiteData) (fits : All Fitting (site_records s)) where
-  parts : All Fitting (map Lane s.lanes) × (All Fitting (map tariff_record s.tariff) × All Fitting (map cart_record s.carts))
+module _ (s : SiteData) (fits : AllByRecursion Fitting (site_records s)) where
+  parts : AllByRecursion Fitting (map Lane s.lanes) × (AllByRecursion Fitting (map tariff_record s.tariff) × AllByRecursion Fitting (map cart_record s.carts))
   parts = let a = all_left Fitting (map Lane s.lanes) _ fits.1.1 in (a.0, all_left Fitting (map tariff_record s.tariff) _ a.1)
 
   carts_placed : (past : List Record) → 2 ≤ last_rank past → last_rank past ≤ 4 → EachAfter Placed past (map cart_record s.carts)
@@ -133,7 +133,7 @@ last_from k done (r ∷ rs) h p =
     let e = last_push done r in
     subst (λ (t : List Record). k ≤ last_rank t) (append_assoc done (r ∷ []) rs) (last_from k (done ++ r ∷ []) rs (omega arith) p.1)
 
-pub printed_well_formed : (s : SiteData) → All Fitting (site_records s) → WellFormed (site_records s)
+pub printed_well_formed : (s : SiteData) → AllByRecursion Fitting (site_records s) → WellFormed (site_records s)
 printed_well_formed s fits =
     let p = printed_placed s fits in
     record { placed = p; whole = last_from 2 (Horizon s.horizon ∷ (Places s.places ∷ [])) _ (omega arith) p.1.1 }

@@ -1,6 +1,6 @@
 -- The promises of the format and of its reading. Assumes nothing.
 use Rattle.std.proofs.Common.{◌≡◌, ℕ, ◌+◌, List, [], ◌++◌, length, Some, None, sym, refl, ap, ◌∙◌, arith}
-use Rattle.std.specs.List.{AllByRecursion as All}
+use Rattle.std.specs.List.{AllByRecursion}
 use Rattle.std.proofs.lemmas.List.{append-nil}
 use Rattle.sites.specs.declared.records.Record.{Record}
 use Rattle.sites.specs.declared.rooms.Rooms.{Rooms}
@@ -12,7 +12,7 @@ use Rattle.sites.proofs.Outcomes.{one_way}
 use Rattle.sites.proofs.RecordLists.{all_from_each, each_both, each_weaker}
 use Rattle.sites.proofs.Printing.{said-back, printed_well_formed}
 
-fitting : (rs : List Record) → EachAfter Placed [] rs → All Fitting rs
+fitting : (rs : List Record) → EachAfter Placed [] rs → AllByRecursion Fitting rs
 fitting rs h = all_from_each Placed Fitting (λ before r p. p.fitting) [] rs h
 
 pub format_stands : FormatStands

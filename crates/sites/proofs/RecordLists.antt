@@ -1,6 +1,6 @@
 -- Lists of records: what their parts are one record on, and records that each stand in a relation to those before them. Assumes nothing.
 use Rattle.std.proofs.Common.{◌≡◌, ℕ, List, [], ◌∷◌, ◌++◌, sym, refl, ap, ◌∙◌, subst}
-use Rattle.std.specs.List.{flat_map, AllByRecursion as All}
+use Rattle.std.specs.List.{flat_map, AllByRecursion}
 use Rattle.std.proofs.lemmas.List.{append_assoc, append-nil}
 use Rattle.sites.specs.declared.records.Record.{Record}
 use Rattle.sites.specs.Records.{record_text, records_text}
@@ -28,7 +28,7 @@ module _ (P : List Record → Record → Type 0) where
       let Q : List Record → Type 0 = λ t. P t r in
       (h.0, each_push (done ++ a ∷ []) rs r h.1 (subst Q (sym (append_assoc done (a ∷ []) rs)) p))
 
-  pub all_from_each : (Q : Record → Type 0) → ((before : List Record) (r : Record) → P before r → Q r) → (done rs : List Record) → EachAfter P done rs → All Q rs
+  pub all_from_each : (Q : Record → Type 0) → ((before : List Record) (r : Record) → P before r → Q r) → (done rs : List Record) → EachAfter P done rs → AllByRecursion Q rs
   all_from_each Q f done [] h = tt
   all_from_each Q f done (r ∷ rs) h = (f done r h.0, all_from_each Q f (done ++ r ∷ []) rs h.1)
 

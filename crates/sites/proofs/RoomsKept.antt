@@ -1,6 +1,6 @@
 -- The rows of records that are accepted are within their tables. Assumes nothing.
 use Rattle.std.proofs.Common.{◌≡◌, ℕ, ◌+◌, ◌≤◌, ltb, leb, List, [], ◌∷◌, ◌++◌, length, Some, None, Option, sym, refl, ap, ◌∙◌, subst, arith}
-use Rattle.std.specs.List.{flat_map, AllByRecursion as All}
+use Rattle.std.specs.List.{flat_map, AllByRecursion}
 use Rattle.std.proofs.lemmas.List.{append_assoc, append-nil, length-append}
 use Rattle.std.proofs.lemmas.Bool.{leb-false, ltb-false, or_parts}
 use Rattle.carts.specs.declared.draft_refusal.DraftRefusal.{DraftRefusal}
@@ -60,7 +60,7 @@ within part rooms rows adds done (r ∷ rs) h k =
     subst (λ (t : List Record). length (flat_map part t) ≤ rows) (append_assoc done (r ∷ []) rs)
     (within part rooms rows adds (done ++ r ∷ []) rs h.1 (omega (arith, adds done r h.0 k)))
 
-pub all_fitting : (rooms : Rooms) (rs : List Record) → EachAfter (Stands rooms) [] rs → All Fitting rs
+pub all_fitting : (rooms : Rooms) (rs : List Record) → EachAfter (Stands rooms) [] rs → AllByRecursion Fitting rs
 all_fitting rooms rs h = all_from_each (Stands rooms) Fitting (λ before r s. s.fitting) [] rs h
 
 module _ (rooms : Rooms) (bytes : List ℕ) (rs : List Record) (a : Accepted rooms bytes rs) where

@@ -1,6 +1,6 @@
 -- The second reading of a site, which writes the rows of its lanes and tariff lines. Assumes nothing.
 use Rattle.std.proofs.Common.{◌≡◌, ℕ, ◌+◌, ◌-◌, ◌≤◌, List, [], ◌∷◌, ◌++◌, length, take, drop, sym, refl, ap, ◌∙◌, subst, arith}
-use Rattle.std.specs.List.{flat_map, AllByRecursion as All}
+use Rattle.std.specs.List.{flat_map, AllByRecursion}
 use Rattle.std.proofs.lemmas.List.{append_assoc, append-nil, drop-drop, length-append, length-drop, take_rest}
 use Rattle.costs.specs.declared.pair.Pair.{Pair}
 use Rattle.costs.specs.declared.total.Total.{Total}
@@ -60,7 +60,7 @@ row_more part done r was now' next n k t e f =
       rows = e ∙ (λ i. put (t.rows i) (t.count i) (part r)) ∙ put-filled (flat_map part done) (part r) was ∙ ap (λ xs. filled xs was) (sym more);
     }
 
-all_right : (done left : List Record) → All Fitting (done ++ left) → All Fitting left
+all_right : (done left : List Record) → AllByRecursion Fitting (done ++ left) → AllByRecursion Fitting left
 all_right [] left h = h
 all_right (r ∷ done) left h = all_right done left h.1
 
@@ -74,8 +74,8 @@ module _ (bytes : List ℕ) (at n m : ℕ) (lanes₀ lanes : List LaneRow) (tari
     pub whole : p.done ++ r ∷ others ≡ p.site.records
     pub text : drop (at + k) bytes ≡ records_text others
 
-  left_fitting : (p : Passed bytes at n m lanes₀ lanes tariff₀ tariff) → All Fitting p.left
-  left_fitting p = all_right p.done p.left (subst (λ (rs : List Record). All Fitting rs) (sym p.whole) p.site.fitting)
+  left_fitting : (p : Passed bytes at n m lanes₀ lanes tariff₀ tariff) → AllByRecursion Fitting p.left
+  left_fitting p = all_right p.done p.left (subst (λ (rs : List Record). AllByRecursion Fitting rs) (sym p.whole) p.site.fitting)
 
   pub next_is : (p : Passed bytes at n m lanes₀ lanes tariff₀ tariff) (r : Record) (k : ℕ) → Front slice r k → Next p r k
   next_is p r k f = go p.left p.whole p.text (left_fitting p)
@@ -83,7 +83,7 @@ module _ (bytes : List ℕ) (at n m : ℕ) (lanes₀ lanes : List LaneRow) (tari
       rest : drop at bytes ≡ record_text r ++ drop (at + k) bytes
       rest = sym (take_rest bytes at) ∙ f.text ∙ ap (λ t. record_text r ++ t) (ap (drop k) (take_rest bytes at) ∙ drop-drop k at bytes)
 
-      go : (left : List Record) → p.done ++ left ≡ p.site.records → drop at bytes ≡ records_text left → All Fitting left → Next p r k
+      go : (left : List Record) → p.done ++ left ≡ p.site.records → drop at bytes ≡ records_text left → AllByRecursion Fitting left → Next p r k
       go [] w t h = let e = sym t ∙ rest in let z : ◌≡◌ {A = ℕ} 0 1 = cc in absurd (omega arith)
       go (s ∷ left) w t h =
           let same = record_same r s (drop (at + k) bytes) (records_text left) f.fitting h.0 (sym rest ∙ t) in
@@ -120,13 +120,13 @@ module _ (bytes : List ℕ) (at n m : ℕ) (lanes₀ lanes : List LaneRow) (tari
   pub all_done : (p : Passed bytes at n m lanes₀ lanes tariff₀ tariff) → ((r : Record) (more : List ℕ) → Fitting r → slice ≡ record_text r ++ more → ⊥) → p.done ≡ p.site.records
   all_done p none = go p.left p.whole p.text (left_fitting p)
     where
-      go : (left : List Record) → p.done ++ left ≡ p.site.records → drop at bytes ≡ records_text left → All Fitting left → p.done ≡ p.site.records
+      go : (left : List Record) → p.done ++ left ≡ p.site.records → drop at bytes ≡ records_text left → AllByRecursion Fitting left → p.done ≡ p.site.records
       go [] w t h = sym (append-nil p.done) ∙ w
       go (s ∷ left) w t h = absurd (none s (records_text left) h.0 (take_rest bytes at ∙ t))
 
   pub written : (p : Passed bytes at n m lanes₀ lanes tariff₀ tariff) → p.done ≡ p.site.records → ((rs : List Record) → RowsWritten lanes_in rs bytes lanes₀ lanes) × ((rs : List Record) → RowsWritten tariff_in rs bytes tariff₀ tariff)
   written p all =
-      let same : (rs : List Record) → All Fitting rs → bytes ≡ records_text rs → p.done ≡ rs =
+      let same : (rs : List Record) → AllByRecursion Fitting rs → bytes ≡ records_text rs → p.done ≡ rs =
       λ rs h e. all ∙ records_same p.site.records rs p.site.fitting h (sym p.site.text ∙ e) in (
         (λ rs h e. p.lane_table.rows ∙ ap (λ (qs : List Record). filled (flat_map lanes_in qs) lanes₀) (same rs h e)),
         (λ rs h e. p.tariff_table.rows ∙ ap (λ (qs : List Record). filled (flat_map tariff_in qs) tariff₀) (same rs h e)),

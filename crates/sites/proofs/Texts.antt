@@ -1,6 +1,6 @@
 -- A text is that of one list of records at most.
 use Rattle.std.proofs.Common.{◌≡◌, ℕ, ◌+◌, ◌%◌, ◌^◌, ◌<◌, ◌≤◌, cond, eqb, List, [], ◌∷◌, ◌++◌, Some, None, decimal, Option, sym, refl, ◌∙◌, arith}
-use Rattle.std.specs.List.{AllByRecursion as All}
+use Rattle.std.specs.List.{AllByRecursion}
 use Rattle.std.proofs.lemmas.Fmt.{decimal_by_steps, decimal_injective}
 use Rattle.std.proofs.ByRecursion.{All-push}
 use Rattle.std.proofs.lemmas.List.{append_assoc}
@@ -15,7 +15,7 @@ Stops [] = Unit {0}
 Stops (x ∷ xs) = x < 48
 
 -- what stands before the first byte below the digits can be read off, and so can what stands from there on
-pub split_digits : (xs ys u v : List ℕ) → All (λ x. 48 ≤ x) xs → All (λ x. 48 ≤ x) ys → Stops u → Stops v → xs ++ u ≡ ys ++ v → (xs ≡ ys) × (u ≡ v)
+pub split_digits : (xs ys u v : List ℕ) → AllByRecursion (λ x. 48 ≤ x) xs → AllByRecursion (λ x. 48 ≤ x) ys → Stops u → Stops v → xs ++ u ≡ ys ++ v → (xs ≡ ys) × (u ≡ v)
 split_digits [] [] u v p q s t e = (refl, e)
 split_digits [] (y ∷ ys) [] v p q s t e = let z : ◌≡◌ {A = ℕ} 0 1 = cc in absurd (omega arith)
 split_digits [] (y ∷ ys) (x ∷ u) v p q s t e = let h : x ≡ y = cc in absurd (omega (arith, q.0))
@@ -27,15 +27,15 @@ split_digits (x ∷ xs) (y ∷ ys) u v p q s t e =
     let f = k.0 in
     (cc, k.1)
 
-pub from_zero : (n : ℕ) → n < 2 ^ 64 → All (λ x. 48 ≤ x) (decimal n)
-from_zero = decimal_by_steps (λ n ds. All (λ x. 48 ≤ x) ds) (λ n h. (omega arith, tt)) (λ n ds h k. All-push (λ x. 48 ≤ x) ds (48 + n % 10) k (omega arith))
+pub from_zero : (n : ℕ) → n < 2 ^ 64 → AllByRecursion (λ x. 48 ≤ x) (decimal n)
+from_zero = decimal_by_steps (λ n ds. AllByRecursion (λ x. 48 ≤ x) ds) (λ n h. (omega arith, tt)) (λ n ds h k. All-push (λ x. 48 ≤ x) ds (48 + n % 10) k (omega arith))
 
 stops_numbers : (ns u : List ℕ) → Stops (numbers_text ns ++ (10 ∷ u))
 stops_numbers [] u = omega arith
 stops_numbers (n ∷ ns) u = omega arith
 
 -- numbers that each follow a space can be read off a line
-numbers_same : (ns ms u v : List ℕ) → All (λ n. n ≤ 65535) ns → All (λ n. n ≤ 65535) ms → numbers_text ns ++ (10 ∷ u) ≡ numbers_text ms ++ (10 ∷ v) → (ns ≡ ms) × (u ≡ v)
+numbers_same : (ns ms u v : List ℕ) → AllByRecursion (λ n. n ≤ 65535) ns → AllByRecursion (λ n. n ≤ 65535) ms → numbers_text ns ++ (10 ∷ u) ≡ numbers_text ms ++ (10 ∷ v) → (ns ≡ ms) × (u ≡ v)
 numbers_same [] [] u v p q e = (refl, cc)
 numbers_same [] (m ∷ ms) u v p q e = let z : ◌≡◌ {A = ℕ} 10 32 = cc in absurd (omega arith)
 numbers_same (n ∷ ns) [] u v p q e = let z : ◌≡◌ {A = ℕ} 32 10 = cc in absurd (omega arith)
@@ -84,7 +84,7 @@ record_same r s u v p q e =
     (same_parts r s a b k.0, k.1)
 
 -- a text is that of one list of records at most
-pub records_same : (rs ss : List Record) → All Fitting rs → All Fitting ss → records_text rs ≡ records_text ss → rs ≡ ss
+pub records_same : (rs ss : List Record) → AllByRecursion Fitting rs → AllByRecursion Fitting ss → records_text rs ≡ records_text ss → rs ≡ ss
 records_same [] [] p q e = refl
 records_same [] (s ∷ ss) p q e = let z : ◌≡◌ {A = ℕ} 0 1 = cc in absurd (omega arith)
 records_same (r ∷ rs) [] p q e = let z : ◌≡◌ {A = ℕ} 0 1 = cc in absurd (omega arith)

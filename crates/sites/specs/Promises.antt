@@ -1,7 +1,7 @@
 -- What holds of the format and of its reading: a text says one site at most, a printed site says itself, and each text is read in one way.
 -- Assumes nothing.
 use Rattle.std.specs.Prelude.{◌≡◌, ℕ, List, [], ◌∷◌, ◌++◌, map, None}
-use Rattle.std.specs.List.{AllByRecursion as All}
+use Rattle.std.specs.List.{AllByRecursion}
 use Rattle.costs.specs.declared.pair.Pair.{Pair}
 use Rattle.costs.specs.declared.total.Total.{Total}
 use Rattle.costs.specs.declared.worst.Worst.{Worst}
@@ -36,7 +36,7 @@ pub record FormatStands : Type 0 where
   -- a text says one site at most
   pub one_site : (bytes : List ℕ) (s t : SiteData) → Says bytes s → Says bytes t → s ≡ t
   -- what is printed of a site says that site
-  pub printed : (s : SiteData) → All Fitting (site_records s) → Says (site_text s) s
+  pub printed : (s : SiteData) → AllByRecursion Fitting (site_records s) → Says (site_text s) s
 
 -- over tables of so many rows
 pub record ReadingStands (rooms : Rooms) : Type 0 where
@@ -48,4 +48,4 @@ pub record ReadingStands (rooms : Rooms) : Type 0 where
   pub not_both : (bytes : List ℕ) (rs : List Record) (line : ℕ) (fault : SiteFault) → Accepted rooms bytes rs → Refused rooms bytes line fault → ⊥
   pub one_refused : (bytes : List ℕ) (l m : ℕ) (f g : SiteFault) → Refused rooms bytes l f → Refused rooms bytes m g → (l ≡ m) × (f ≡ g)
   -- a printed site of which no record is refused is read back
-  pub read_back : (s : SiteData) → All Fitting (site_records s) → NoneRefused rooms (site_records s) → Accepted rooms (site_text s) (site_records s) × (said (site_records s) ≡ s)
+  pub read_back : (s : SiteData) → AllByRecursion Fitting (site_records s) → NoneRefused rooms (site_records s) → Accepted rooms (site_text s) (site_records s) × (said (site_records s) ≡ s)

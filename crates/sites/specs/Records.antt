@@ -1,6 +1,6 @@
 -- The records of a site and their text. Assumes nothing.
 use Rattle.std.specs.Prelude.{ℕ, ◌≤◌, List, [], ◌∷◌, ◌++◌, decimal}
-use Rattle.std.specs.List.{flat_map, AllByRecursion as All}
+use Rattle.std.specs.List.{flat_map, AllByRecursion}
 use Rattle.sites.specs.declared.records.Record.{Record}
 use Rattle.sites.specs.declared.records.Record.TheVariants.{Horizon, Places, Lane, BothLanes, Tariff, Cart}
 
@@ -46,4 +46,4 @@ records_text rs = flat_map record_text rs
 
 -- no number is above 65,535
 abbrev pub Fitting : Record → Type 0
-Fitting r = All (λ n. n ≤ 65535) (numbers r)
+Fitting r = AllByRecursion (λ n. n ≤ 65535) (numbers r)

@@ -1,6 +1,6 @@
 use Rattle.std.proofs.Common.{ℕ, List, subst, arith, rules}
 use Rattle.std.specs.Int.{IsInRange}
-use Rattle.std.specs.List.{AllByRecursion as All}
+use Rattle.std.specs.List.{AllByRecursion}
 use Rattle.std.proofs.ByRecursion.{All-more, All-get_or}
 use Rattle.std.proofs.lemmas.List.{take_all}
 use Rattle.digits.proofs.numbers.all_digits.Goals as goal
@@ -15,4 +15,4 @@ loop-b-preserved c =
 
 pub returns : goal.returns
 returns c =
-    (λ _. let P : List ℕ → Type 0 = All (IsInRange 48 57) in subst P (take_all c.loop-b.b-index c.args.bytes.now (omega arith)) c.loop-b.invariant, λ _. search rules)
+    (λ _. let P : List ℕ → Type 0 = AllByRecursion (IsInRange 48 57) in subst P (take_all c.loop-b.b-index c.args.bytes.now (omega arith)) c.loop-b.invariant, λ _. search rules)

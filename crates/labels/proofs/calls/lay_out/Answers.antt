@@ -5,8 +5,8 @@ use Rattle.labels.specs.Queries.{asked}
 use Rattle.labels.proofs.Answering.{admitted}
 use Rattle.labels.proofs.calls.lay_out.Goals as goal
 
-pub fill-labels-requires : goal.fill-labels-requires
-fill-labels-requires g c =
+pub fill_labels-requires : goal.fill_labels-requires
+fill_labels-requires g c =
     let a = asked g.F.Floor.moves g.C.CostKind.kind g.B.Constrains.constraint c.args.query.now in
-    let fit = admitted a (length c.args.rows.now) (sym c.in-default.ensures) in
+    let fit = admitted a (length c.args.rows.now) (sym c.in_default.ensures) in
     record { few = fit.few; known = omega (arith, fit.known, length-map c.args.query.now.carts.now cart_of); ticks = fit.ticks; table = c.requires }

@@ -10,25 +10,25 @@ use Rattle.labels.specs.Rows.{shown, trace_at}
 use Rattle.labels.proofs.Answering.{solved_lands, solved_offers, offer_long}
 use Rattle.labels.proofs.calls.serve.Goals as goal
 
-pub landing-of-landing-requires : goal.landing-of-landing-requires
-landing-of-landing-requires g c = omega (arith, c.requires.solved.known, length-map c.args.query.now.carts.now cart_of)
+pub landing_of-landing-requires : goal.landing_of-landing-requires
+landing_of-landing-requires g c = omega (arith, c.requires.solved.known, length-map c.args.query.now.carts.now cart_of)
 
-pub find-offer-requires : goal.find-offer-requires
-find-offer-requires g c =
+pub find_offer-requires : goal.find_offer-requires
+find_offer-requires g c =
     let a = asked g.F.Floor.moves g.C.CostKind.kind g.B.Constrains.constraint c.args.query.now in
-    solved_lands a c.landing-of-landing.result c.landing-of-landing.ensures c.args.rows.now c.args.starts.now c.args.end c.requires.solved (g.met.F.Floor.bounds c.args.query.now.floor.now).few_places c.requires.table
+    solved_lands a c.landing_of-landing.result c.landing_of-landing.ensures c.args.rows.now c.args.starts.now c.args.end c.requires.solved (g.met.F.Floor.bounds c.args.query.now.floor.now).few_places c.requires.table
 
-pub returns-in-default : goal.returns-in-default
-returns-in-default g c =
+pub returns-in_default : goal.returns-in_default
+returns-in_default g c =
     let a = asked g.F.Floor.moves g.C.CostKind.kind g.B.Constrains.constraint c.args.query.now in
-    let none = c.in-default.ensures.found ∙ ap (λ xs. slice_get xs c.args.number) (solved_offers a c.landing-of-landing.result c.landing-of-landing.ensures c.args.rows.now c.args.starts.now c.args.end c.requires.solved) in
+    let none = c.in_default.ensures.found ∙ ap (λ xs. slice_get xs c.args.number) (solved_offers a c.landing_of-landing.result c.landing_of-landing.ensures c.args.rows.now c.args.starts.now c.args.end c.requires.solved) in
     record { answer = ap (option_map (λ o. o.cost)) none; written = ap (λ o. walked o c.args.places.now) none }
 
-pub write-walk-requires : goal.write-walk-requires
-write-walk-requires g c =
+pub write_walk-requires : goal.write_walk-requires
+write_walk-requires g c =
     let a = asked g.F.Floor.moves g.C.CostKind.kind g.B.Constrains.constraint c.args.query.now in
-    let l = c.landing-of-landing.result in
-    let at = c.landing-of-landing.ensures in
+    let l = c.landing_of-landing.result in
+    let at = c.landing_of-landing.ensures in
     let rows = c.args.rows.now in
     let found = c.in-Some.ensures.found ∙ ap (λ xs. slice_get xs c.args.number) (solved_offers a l at rows c.args.starts.now c.args.end c.requires.solved) in
     let all : c.args.end - 0 ≡ c.args.end = omega arith in
@@ -41,13 +41,13 @@ write-walk-requires g c =
 pub returns : goal.returns
 returns g c =
     let a = asked g.F.Floor.moves g.C.CostKind.kind g.B.Constrains.constraint c.args.query.now in
-    let l = c.landing-of-landing.result in
+    let l = c.landing_of-landing.result in
     let rows = c.args.rows.now in
     let offer = c.in-Some.offer in
     let was = c.args.places.now in
-    let found = c.in-Some.ensures.found ∙ ap (λ xs. slice_get xs c.args.number) (solved_offers a l c.landing-of-landing.ensures rows c.args.starts.now c.args.end c.requires.solved) in
+    let found = c.in-Some.ensures.found ∙ ap (λ xs. slice_get xs c.args.number) (solved_offers a l c.landing_of-landing.ensures rows c.args.starts.now c.args.end c.requires.solved) in
     let all : c.args.end - 0 ≡ c.args.end = omega arith in
     record {
       answer = ap (option_map (λ o. o.cost)) found;
-      written = c.write-walk.ensures ∙ ap (λ n. reverse (shown_offer l (shown (take n rows)) offer).item) all ∙ ap (λ o. walked o was) found;
+      written = c.write_walk.ensures ∙ ap (λ n. reverse (shown_offer l (shown (take n rows)) offer).item) all ∙ ap (λ o. walked o was) found;
     }

@@ -7,8 +7,8 @@ use Rattle.labels.proofs.cells.fill_front.Goals as goal
 pub loop-row-init : goal.loop-row-init
 loop-row-init g c = filling_none c.args.rows.now c.args.cell.start _ c.requires.ready.within
 
-pub next-label-requires : goal.next-label-requires
-next-label-requires g c =
+pub next_label-requires : goal.next_label-requires
+next_label-requires g c =
     let k = g.C.CostKind.kind in
     let a = asked g.F.Floor.moves k g.B.Constrains.constraint c.args.query.now in
     let cell = c.args.cell in
@@ -38,4 +38,4 @@ returns g c =
     let k = g.C.CostKind.kind in
     let a = asked g.F.Floor.moves k g.B.Constrains.constraint c.args.query.now in
     let cell = c.args.cell in
-    filled_done k g.met.C.CostKind.laws (reaching a cell.tick cell.place) c.args.rows.now c.loop-row.rows cell.start c.loop-row.end c.requires.ready.within c.loop-row.invariant c.in-default.ensures
+    filled_done k g.met.C.CostKind.laws (reaching a cell.tick cell.place) c.args.rows.now c.loop-row.rows cell.start c.loop-row.end c.requires.ready.within c.loop-row.invariant c.in_default.ensures

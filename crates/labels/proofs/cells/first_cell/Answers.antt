@@ -13,17 +13,17 @@ returns-then-place-query g c =
     let elsewhere : false ≡ eqb c.args.place (start_of a.inst a.cart) = sym (ne_eqb c.args.place (start_of a.inst a.cart) (λ e. c.if-place-query.true (e ∙ start))) in
     grown_none c.args.rows.now c.args.n _ c.requires.within (first_cell a c.args.place false (may_be_at a c.args.place 0) c.requires.place elsewhere (λ j. may_be_at a c.args.place 0))
 
-pub returns-then-not-may-be : goal.returns-then-not-may-be
-returns-then-not-may-be g c =
+pub returns-then-not-may_be : goal.returns-then-not-may_be
+returns-then-not-may_be g c =
     let a = asked g.F.Floor.moves g.C.CostKind.kind g.B.Constrains.constraint c.args.query.now in
     let start = start_at c.args.query.now.carts.now c.args.query.now.cart (record { start = 0; goal = 0 }) c.requires.known in
     let here : true ≡ eqb c.args.place (start_of a.inst a.cart) = sym (eq-eqb c.args.place (start_of a.inst a.cart) (c.if-place-query.false ∙ sym start)) in
-    grown_none c.args.rows.now c.args.n _ c.requires.within (first_cell a c.args.place true false c.requires.place here c.if-not-may-be.ensures)
+    grown_none c.args.rows.now c.args.n _ c.requires.within (first_cell a c.args.place true false c.requires.place here c.if-not-may_be.ensures)
 
 pub returns : goal.returns
 returns g c =
     let a = asked g.F.Floor.moves g.C.CostKind.kind g.B.Constrains.constraint c.args.query.now in
     let start = start_at c.args.query.now.carts.now c.args.query.now.cart (record { start = 0; goal = 0 }) c.requires.known in
     let here : true ≡ eqb c.args.place (start_of a.inst a.cart) = sym (eq-eqb c.args.place (start_of a.inst a.cart) (c.if-place-query.false ∙ sym start)) in
-    let cell = ap (λ x. x ∷ []) (first_label a c.args.rows.now c.args.n c.args.place _ c.requires.within c.requires.few c.zero-cost.ensures) ∙ first_cell a c.args.place true true c.requires.place here c.if-not-may-be.ensures in
-    subst (λ l. Grown c.args.rows.now c.push-row.new.rows c.args.n l c.push-row.result) cell c.push-row.ensures
+    let cell = ap (λ x. x ∷ []) (first_label a c.args.rows.now c.args.n c.args.place _ c.requires.within c.requires.few c.zero-cost.ensures) ∙ first_cell a c.args.place true true c.requires.place here c.if-not-may_be.ensures in
+    subst (λ l. Grown c.args.rows.now c.push_row.new.rows c.args.n l c.push_row.result) cell c.push_row.ensures

@@ -4,19 +4,19 @@ use Rattle.labels.specs.Queries.{asked, row_of}
 use Rattle.labels.proofs.Tabling.{later_cell, runs_before, table_before, grown_none}
 use Rattle.labels.proofs.cells.later_cell.Goals as goal
 
-pub returns-then-not-may-be : goal.returns-then-not-may-be
-returns-then-not-may-be g c =
+pub returns-then-not-may_be : goal.returns-then-not-may_be
+returns-then-not-may_be g c =
     let a = asked g.F.Floor.moves g.C.CostKind.kind g.B.Constrains.constraint c.args.query.now in
     let s : c.args.layer.tick ≡ suc (c.args.layer.tick - 1) = omega (arith, c.requires.later) in
-    grown_none c.args.rows.now c.args.n _ c.requires.held.within (later_cell a c.args.layer.tick (c.args.layer.tick - 1) c.args.place false s c.requires.place c.if-not-may-be.ensures)
+    grown_none c.args.rows.now c.args.n _ c.requires.held.within (later_cell a c.args.layer.tick (c.args.layer.tick - 1) c.args.place false s c.requires.place c.if-not-may_be.ensures)
 
-pub is-barred-barred-requires : goal.is-barred-barred-requires
-is-barred-barred-requires g c =
+pub is_barred-barred-requires : goal.is_barred-barred-requires
+is_barred-barred-requires g c =
     let s : c.args.layer.tick ≡ suc (c.args.layer.tick - 1) = omega (arith, c.requires.later) in
     c.requires.laid.was_busy (c.args.layer.tick - 1) s
 
-pub fill-front-requires : goal.fill-front-requires
-fill-front-requires g c =
+pub fill_front-requires : goal.fill_front-requires
+fill_front-requires g c =
     let a = asked g.F.Floor.moves g.C.CostKind.kind g.B.Constrains.constraint c.args.query.now in
     let layer = c.args.layer in
     let t' = layer.tick - 1 in
@@ -29,7 +29,7 @@ fill-front-requires g c =
         few = c.requires.few;
         table = table_before a layer.tick t' layer.base layer.before (length c.args.starts.now) s laid.base (laid.before t' s) c.requires.table;
         runs = runs_before a layer.tick t' layer.before c.args.rows.now c.args.starts.now (take c.args.place (row_of a layer.tick)) c.args.n s (laid.before t' s) c.requires.held;
-        barred = c.is-barred-barred.ensures;
+        barred = c.is_barred-barred.ensures;
       };
       place = c.requires.place;
       indexed = c.requires.indexed c.args.place c.requires.place;
@@ -39,5 +39,5 @@ pub returns : goal.returns
 returns g c =
     let a = asked g.F.Floor.moves g.C.CostKind.kind g.B.Constrains.constraint c.args.query.now in
     let s : c.args.layer.tick ≡ suc (c.args.layer.tick - 1) = omega (arith, c.requires.later) in
-    let cell = later_cell a c.args.layer.tick (c.args.layer.tick - 1) c.args.place true s c.requires.place c.if-not-may-be.ensures in
-    subst (λ l. Grown c.args.rows.now c.fill-front.new.rows c.args.n l c.fill-front.result) cell c.fill-front.ensures
+    let cell = later_cell a c.args.layer.tick (c.args.layer.tick - 1) c.args.place true s c.requires.place c.if-not-may_be.ensures in
+    subst (λ l. Grown c.args.rows.now c.fill_front.new.rows c.args.n l c.fill_front.result) cell c.fill_front.ensures

@@ -5,8 +5,8 @@ use Rattle.labels.proofs.index.add_chain.Goals as goal
 pub loop-at-init : goal.loop-at-init
 loop-at-init c = walking_none c.args.links.now c.args.head c.args.moves.now c.args.n c.requires.chain.0 c.requires.chain.1.0 c.requires.chain.1.1
 
-pub offset-bounds-links-at : goal.offset-bounds-links-at
-offset-bounds-links-at c = let w = walking_in _ _ _ _ _ _ _ c.loop-at.invariant c.loop-at-test.true in omega (arith, w.0, c.requires.few)
+pub offset_bounds-links-at : goal.offset_bounds-links-at
+offset_bounds-links-at c = let w = walking_in _ _ _ _ _ _ _ c.loop-at.invariant c.loop-at-test.true in omega (arith, w.0, c.requires.few)
 
 pub bounds-links-at : goal.bounds-links-at
 bounds-links-at c = let w = walking_in _ _ _ _ _ _ _ c.loop-at.invariant c.loop-at-test.true in omega (arith, w.0, c.loop-at-test.true)

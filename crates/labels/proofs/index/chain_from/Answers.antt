@@ -9,15 +9,15 @@ pub loop-k-init : goal.loop-k-init
 loop-k-init g c =
     let floor = c.args.floor.now in
     let moves = g.F.Floor.moves floor in (
-      omega (arith, c.move-count-k.ensures),
-      omega (arith, c.move-count-k.ensures, moves_few moves (g.met.F.Floor.bounds floor) c.args.from, c.requires.room),
-      after_none moves c.args.from c.args.heads.now c.args.links.now c.args.n c.move-count-k.result c.move-count-k.ensures c.requires.chained,
+      omega (arith, c.move_count-k.ensures),
+      omega (arith, c.move_count-k.ensures, moves_few moves (g.met.F.Floor.bounds floor) c.args.from, c.requires.room),
+      after_none moves c.args.from c.args.heads.now c.args.links.now c.args.n c.move_count-k.result c.move_count-k.ensures c.requires.chained,
     )
 
-pub returns-in-default : goal.returns-in-default
-returns-in-default g c =
+pub returns-in_default : goal.returns-in_default
+returns-in_default g c =
     let ms = get_or (g.F.Floor.moves c.args.floor.now) c.args.from [] in
-    absurd (omega (arith, at_past ms (c.loop-k.k - 1) (sym c.in-default.ensures), c.loop-k.invariant.0, c.loop-k-test.true))
+    absurd (omega (arith, at_past ms (c.loop-k.k - 1) (sym c.in_default.ensures), c.loop-k.invariant.0, c.loop-k-test.true))
 
 pub bounds-heads-to : goal.bounds-heads-to
 bounds-heads-to g c =

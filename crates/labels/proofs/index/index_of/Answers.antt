@@ -4,18 +4,18 @@ use Rattle.labels.specs.Indexes.{inbound_of}
 use Rattle.labels.proofs.Indexing.{indexing_room, indexing_more, indexing_all}
 use Rattle.labels.proofs.index.index_of.Goals as goal
 
-pub chain-all-requires : goal.chain-all-requires
-chain-all-requires g c = record { places = refl; few = refl; clear = λ p lt. get_or-replicate 128 p 0 0 lt }
+pub chain_all-requires : goal.chain_all-requires
+chain_all-requires g c = record { places = refl; few = refl; clear = λ p lt. get_or-replicate 128 p 0 0 lt }
 
-pub add-chain-n-requires : goal.add-chain-n-requires
-add-chain-n-requires g c =
+pub add_chain-n-requires : goal.add_chain-n-requires
+add_chain-n-requires g c =
     let floor = c.args.floor.now in
     let moves = g.F.Floor.moves floor in
     let bounds = g.met.F.Floor.bounds floor in
     let lt : c.loop-to.to < 128 = omega (arith, c.places-to-end.ensures, c.loop-to-test.true, bounds.few_places) in
     record {
-      few = omega (arith, c.chain-all.auto.links);
-      chain = (inbound_of moves c.loop-to.to, (c.chain-all.ensures c.loop-to.to lt, indexing_room moves bounds c.loop-to.begins c.loop-to.moves c.loop-to.to c.loop-to.n c.loop-to.invariant));
+      few = omega (arith, c.chain_all.auto.links);
+      chain = (inbound_of moves c.loop-to.to, (c.chain_all.ensures c.loop-to.to lt, indexing_room moves bounds c.loop-to.begins c.loop-to.moves c.loop-to.to c.loop-to.n c.loop-to.invariant));
     }
 
 pub loop-to-preserved : goal.loop-to-preserved
@@ -23,7 +23,7 @@ loop-to-preserved g c =
     let floor = c.args.floor.now in
     let bounds = g.met.F.Floor.bounds floor in
     let lt : c.loop-to.to < 128 = omega (arith, c.places-to-end.ensures, c.loop-to-test.true, bounds.few_places) in
-    indexing_more (g.F.Floor.moves floor) bounds c.loop-to.begins c.loop-to.moves c.add-chain-n.new.moves c.loop-to.to c.loop-to.n c.add-chain-n.result lt c.loop-to.invariant c.add-chain-n.auto.moves (c.add-chain-n.ensures (inbound_of (g.F.Floor.moves floor) c.loop-to.to) (c.chain-all.ensures c.loop-to.to lt))
+    indexing_more (g.F.Floor.moves floor) bounds c.loop-to.begins c.loop-to.moves c.add_chain-n.new.moves c.loop-to.to c.loop-to.n c.add_chain-n.result lt c.loop-to.invariant c.add_chain-n.auto.moves (c.add_chain-n.ensures (inbound_of (g.F.Floor.moves floor) c.loop-to.to) (c.chain_all.ensures c.loop-to.to lt))
 
 pub returns : goal.returns
 returns g c =

@@ -7,7 +7,7 @@ pub returns : goal.returns
 returns g c =
     let a = asked g.F.Floor.moves g.C.CostKind.kind g.B.Constrains.constraint c.args.query.now in
     record {
-      first = c.stands-from.ensures;
+      first = c.stands_from.ensures;
       horizon = refl;
       goal = sym (goal_at c.args.query.now.carts.now a.cart (record { start = 0; goal = 0 }) c.requires);
       places = c.places.ensures;

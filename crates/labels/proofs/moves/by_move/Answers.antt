@@ -26,6 +26,6 @@ returns g c =
     let part = drop (get_or c.args.starts.now at 0) (take (get_or c.args.starts.now (at + 1) 0) ls) in
     let labels = get_or (row_of a c.args.cell.tick) c.args.step.from [] in
     c.along.ensures
-    ∙ ap (λ z. pick (extended_by k z place part)) c.price-of.ensures
+    ∙ ap (λ z. pick (extended_by k z place part)) c.price_of.ensures
     ∙ ap (λ l. pick (extended_by k cost place l)) run.same
-    ∙ ap (λ b. pick (cond b (extended_by k cost place labels) [])) c.if-not-may-go.ensures
+    ∙ ap (λ b. pick (cond b (extended_by k cost place labels) [])) c.if-not-may_go.ensures

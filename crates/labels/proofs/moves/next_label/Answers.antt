@@ -12,11 +12,11 @@ pub loop-e-init : goal.loop-e-init
 loop-e-init g c =
     let k = g.C.CostKind.kind in
     let a = asked g.F.Floor.moves k g.B.Constrains.constraint c.args.query.now in
-    let pick = picked k (passed_over k c.last-of-last.result (drop c.args.cell.start (shown (take c.args.end c.args.rows.now)))) None in
+    let pick = picked k (passed_over k c.last_of-last.result (drop c.args.cell.start (shown (take c.args.end c.args.rows.now)))) None in
     ap (λ l. pick (by_all a c.args.cell l)) c.requires.indexed.same ∙ ap pick (sym (reaching_is a c.args.cell))
 
-pub by-move-best-requires : goal.by-move-best-requires
-by-move-best-requires g c =
+pub by_move-best-requires : goal.by_move-best-requires
+by_move-best-requires g c =
     let moves = g.F.Floor.moves c.args.query.now.floor.now in
     let p = c.args.cell.place in
     let index = c.args.index.now in
@@ -30,11 +30,11 @@ loop-e-preserved g c =
     let k = g.C.CostKind.kind in
     let a = asked g.F.Floor.moves k g.B.Constrains.constraint c.args.query.now in
     let ls = shown (take c.args.end c.args.rows.now) in
-    let skip = passed_over k c.last-of-last.result (drop c.args.cell.start ls) in
+    let skip = passed_over k c.last_of-last.result (drop c.args.cell.start ls) in
     let index = c.args.index.now in
     let hi = get_or index.begins (c.args.cell.place + 1) 0 in
     let step = moves_at a c.args.cell skip (shown_best ls c.loop-e.best) index.moves hi c.loop-e.e c.requires.indexed.within (record { from = 0; line = 0 }) c.loop-e-test.true in
-    ap (λ o. picked k skip o (by_all a c.args.cell (drop (c.loop-e.e + 1) (take hi index.moves)))) c.by-move-best.ensures ∙ sym step ∙ c.loop-e.invariant
+    ap (λ o. picked k skip o (by_all a c.args.cell (drop (c.loop-e.e + 1) (take hi index.moves)))) c.by_move-best.ensures ∙ sym step ∙ c.loop-e.invariant
 
 pub returns : goal.returns
 returns g c =
@@ -42,6 +42,6 @@ returns g c =
     let a = asked g.F.Floor.moves k g.B.Constrains.constraint c.args.query.now in
     let ls = shown (take c.args.end c.args.rows.now) in
     let index = c.args.index.now in
-    sym (moves_end a c.args.cell (passed_over k c.last-of-last.result (drop c.args.cell.start ls)) (shown_best ls c.loop-e.best) index.moves (get_or index.begins (c.args.cell.place + 1) 0) c.loop-e.e c.requires.indexed.within c.loop-e-test.false)
+    sym (moves_end a c.args.cell (passed_over k c.last_of-last.result (drop c.args.cell.start ls)) (shown_best ls c.loop-e.best) index.moves (get_or index.begins (c.args.cell.place + 1) 0) c.loop-e.e c.requires.indexed.within c.loop-e-test.false)
     ∙ c.loop-e.invariant
-    ∙ ap (λ last. picked k (passed_over k last (drop c.args.cell.start ls)) None (reaching a c.args.cell.tick c.args.cell.place)) c.last-of-last.ensures
+    ∙ ap (λ last. picked k (passed_over k last (drop c.args.cell.start ls)) None (reaching a c.args.cell.tick c.args.cell.place)) c.last_of-last.ensures

@@ -6,8 +6,8 @@ use Rattle.labels.specs.Rows.{shown}
 use Rattle.labels.proofs.Offering.{offer_more, offers-over, landed-few}
 use Rattle.labels.proofs.offers.count_all.Goals as goal
 
-pub overflow-add-n : goal.overflow-add-n
-overflow-add-n g c =
+pub overflow_add-n : goal.overflow_add-n
+overflow_add-n g c =
     let k = g.C.CostKind.kind in
     let ls = shown (take c.args.end c.args.rows.now) in
     let xs = landed c.args.starts.now c.args.landing ls in
@@ -35,4 +35,4 @@ returns g c =
     let k = g.C.CostKind.kind in
     let ls = shown (take c.args.end c.args.rows.now) in
     let xs = landed c.args.starts.now c.args.landing ls in
-    offers-over k g.met.C.CostKind.laws c.args.landing ls xs c.loop-offer.last c.loop-offer.n c.loop-offer.invariant.0 c.loop-offer.invariant.1 c.in-default.ensures.chosen
+    offers-over k g.met.C.CostKind.laws c.args.landing ls xs c.loop-offer.last c.loop-offer.n c.loop-offer.invariant.0 c.loop-offer.invariant.1 c.in_default.ensures.chosen

@@ -37,5 +37,5 @@ returns g c =
     let k = g.C.CostKind.kind in
     let ls = shown (take c.args.end c.args.rows.now) in
     let xs = landed c.args.starts.now c.args.landing ls in
-    let over = offers-over k g.met.C.CostKind.laws c.args.landing ls xs c.loop-offer.last c.loop-offer.n c.loop-offer.invariant.0 c.loop-offer.invariant.1 c.in-default.ensures.chosen in
+    let over = offers-over k g.met.C.CostKind.laws c.args.landing ls xs c.loop-offer.last c.loop-offer.n c.loop-offer.invariant.0 c.loop-offer.invariant.1 c.in_default.ensures.chosen in
     record { found = sym (slice_get_past (front_of k xs) c.args.number (omega (arith, over, c.loop-offer.invariant.2))); timely = tt }

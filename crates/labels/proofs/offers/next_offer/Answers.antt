@@ -5,8 +5,8 @@ use Rattle.labels.specs.Rows.{shown}
 use Rattle.labels.proofs.Offering.{arrivals-at, arrivals_end}
 use Rattle.labels.proofs.offers.next_offer.Goals as goal
 
-pub by-tick-best-requires : goal.by-tick-best-requires
-by-tick-best-requires g c = record { lands = c.requires; tick = omega (arith, c.loop-tick-test.true); timely = c.loop-tick.invariant.1 }
+pub by_tick-best-requires : goal.by_tick-best-requires
+by_tick-best-requires g c = record { lands = c.requires; tick = omega (arith, c.loop-tick-test.true); timely = c.loop-tick.invariant.1 }
 
 pub loop-tick-preserved : goal.loop-tick-preserved
 loop-tick-preserved g c =
@@ -16,7 +16,7 @@ loop-tick-preserved g c =
     let skip = out_of_turn k c.args.last (landed c.args.starts.now l ls) in
     let le : c.loop-tick.tick ≤ l.horizon = omega (arith, c.loop-tick-test.true) in
     let step = arrivals-at k skip l c.args.starts.now c.loop-tick.tick ls (shown_lead l ls c.loop-tick.best) le in
-    (ap (λ o. picked k skip o (landed_from c.args.starts.now l (c.loop-tick.tick + 1) ls)) c.by-tick-best.ensures.chosen ∙ sym step ∙ c.loop-tick.invariant.0, c.by-tick-best.ensures.timely)
+    (ap (λ o. picked k skip o (landed_from c.args.starts.now l (c.loop-tick.tick + 1) ls)) c.by_tick-best.ensures.chosen ∙ sym step ∙ c.loop-tick.invariant.0, c.by_tick-best.ensures.timely)
 
 pub returns : goal.returns
 returns g c =

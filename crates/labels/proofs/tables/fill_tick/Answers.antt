@@ -8,8 +8,8 @@ loop-place-init g c =
     let a = asked g.F.Floor.moves g.C.CostKind.kind g.B.Constrains.constraint c.args.query.now in
     tick_none a c.args.layer.tick c.args.rows.now c.args.starts.now c.args.n c.requires.held
 
-pub fill-cell-requires : goal.fill-cell-requires
-fill-cell-requires g c =
+pub fill_cell-requires : goal.fill_cell-requires
+fill_cell-requires g c =
     let a = asked g.F.Floor.moves g.C.CostKind.kind g.B.Constrains.constraint c.args.query.now in
     record {
       few = omega (arith, c.loop-place.auto.rows, c.requires.few);
@@ -21,19 +21,19 @@ fill-cell-requires g c =
       held = c.loop-place.invariant;
     }
 
-pub returns-in-default : goal.returns-in-default
-returns-in-default g c =
+pub returns-in_default : goal.returns-in_default
+returns-in_default g c =
     let a = asked g.F.Floor.moves g.C.CostKind.kind g.B.Constrains.constraint c.args.query.now in
     let lt : c.loop-place.place < place_count a = omega (arith, c.loop-place-test.true, c.places-place-end.ensures) in
-    let full = tick_full a c.args.layer.tick c.loop-place.place c.loop-place.rows c.fill-cell.new.rows c.loop-place.starts c.loop-place.n lt c.loop-place.invariant c.in-default.ensures in
-    omega (arith, full, c.fill-cell.auto)
+    let full = tick_full a c.args.layer.tick c.loop-place.place c.loop-place.rows c.fill_cell.new.rows c.loop-place.starts c.loop-place.n lt c.loop-place.invariant c.in_default.ensures in
+    omega (arith, full, c.fill_cell.auto)
 
 pub loop-place-preserved : goal.loop-place-preserved
 loop-place-preserved g c =
     let a = asked g.F.Floor.moves g.C.CostKind.kind g.B.Constrains.constraint c.args.query.now in
     let lt : c.loop-place.place < place_count a = omega (arith, c.loop-place-test.true, c.places-place-end.ensures) in
     let room : c.args.layer.base + place_count a < length c.loop-place.starts = omega (arith, c.loop-place.auto.starts, c.requires.table) in
-    tick_more a c.args.layer.tick c.loop-place.place c.loop-place.rows c.fill-cell.new.rows c.loop-place.starts c.args.layer.base c.loop-place.n c.in-Some.more lt c.requires.laid.base room c.loop-place.invariant c.in-Some.ensures
+    tick_more a c.args.layer.tick c.loop-place.place c.loop-place.rows c.fill_cell.new.rows c.loop-place.starts c.args.layer.base c.loop-place.n c.in-Some.more lt c.requires.laid.base room c.loop-place.invariant c.in-Some.ensures
 
 pub returns : goal.returns
 returns g c =

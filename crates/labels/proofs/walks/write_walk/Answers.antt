@@ -11,7 +11,7 @@ returns g c =
     let n = length c.args.places.now in
     let moved : tick + 1 - 0 ≡ tick + 1 = omega arith in
     let stands : c.fill.new.self ≡ replicate n goal = c.fill.ensures.after (λ y e. e) in
-    ap (λ m. c.write-trace.new.places ++ drop m c.fill.new.self) moved
-    ∙ ap (λ l. l ++ drop (tick + 1) c.fill.new.self) c.write-trace.ensures
+    ap (λ m. c.write_trace.new.places ++ drop m c.fill.new.self) moved
+    ∙ ap (λ l. l ++ drop (tick + 1) c.fill.new.self) c.write_trace.ensures
     ∙ ap (λ l. reverse us ++ drop (tick + 1) l) stands
     ∙ walk_written us goal c.args.landing.horizon tick n c.requires.timely c.requires.long

@@ -9,28 +9,28 @@ use Rattle.offer_pages.proofs.Adding.{grows, grown, option_at, cart_whole}
 use Rattle.offer_pages.proofs.Counting.{counted, too_many}
 use Rattle.offer_pages.proofs.carts_asked.push_cart.Goals as goal
 
-pub returns-in-default : goal.returns-in-default
-returns-in-default g c =
+pub returns-in_default : goal.returns-in_default
+returns-in_default g c =
     let i = meant g.F.Floor.moves g.C.CostKind.kind c.args.site.now in
-    (refl, too_many i c.args.cart (length c.args.rows.now) (length c.args.places.now) c.requires.ready c.requires.known _ (length (offers i c.args.cart [])) c.in-default.ensures.counted)
+    (refl, too_many i c.args.cart (length c.args.rows.now) (length c.args.places.now) c.requires.ready c.requires.known _ (length (offers i c.args.cart [])) c.in_default.ensures.counted)
 
-pub returns-in-err-line : goal.returns-in-err-line
-returns-in-err-line g c = let p = err_from_is_err_and c.from-residual.result c.from-residual.ensures.1 in rw (p.1, p.2) tt
+pub returns-in_err-line : goal.returns-in_err-line
+returns-in_err-line g c = let p = err_from_is_err_and c.from_residual.result c.from_residual.ensures.1 in rw (p.1, p.2) tt
 
-pub returns-in-err-extend-from-slice : goal.returns-in-err-extend-from-slice
-returns-in-err-extend-from-slice g c =
-    let p = err_from_is_err_and c.from-residual-in-err-extend-from-slice.result c.from-residual-in-err-extend-from-slice.ensures.1 in rw (p.1, p.2) tt
+pub returns-in_err-extend_from_slice : goal.returns-in_err-extend_from_slice
+returns-in_err-extend_from_slice g c =
+    let p = err_from_is_err_and c.from_residual-in_err-extend_from_slice.result c.from_residual-in_err-extend_from_slice.ensures.1 in rw (p.1, p.2) tt
 
 pub loop-number-init : goal.loop-number-init
-loop-number-init g c = sym (append-nil (vec_items c.extend-from-slice.new.self))
+loop-number-init g c = sym (append-nil (vec_items c.extend_from_slice.new.self))
 
-pub push-offer-requires : goal.push-offer-requires
-push-offer-requires g c =
+pub push_offer-requires : goal.push_offer-requires
+push_offer-requires g c =
     let i = meant g.F.Floor.moves g.C.CostKind.kind c.args.site.now in
     let rows = length c.args.rows.now in
     let long = length c.args.places.now in
     let k = counted i c.args.cart rows long c.requires.ready c.requires.known c.in-Ok.count (length (offers i c.args.cart [])) c.in-Ok.ensures.counted in
-    let same_rows : rows ≡ length c.loop-number.rows = omega (arith, c.loop-number.auto.rows, c.count-offers.auto.rows) in
+    let same_rows : rows ≡ length c.loop-number.rows = omega (arith, c.loop-number.auto.rows, c.count_offers.auto.rows) in
     let same-long : long ≡ length c.loop-number.places = omega (arith, c.loop-number.auto.places) in
     record {
       free = subst (λ (n : ℕ). walk_hindrance (alone i c.args.cart) n (length c.loop-number.places) ≡ None) same_rows
@@ -38,9 +38,9 @@ push-offer-requires g c =
       known = omega (arith, c.loop-number-test.true, k.count);
     }
 
-pub returns-in-err-push-offer : goal.returns-in-err-push-offer
-returns-in-err-push-offer g c =
-    let p = err_from_is_err_and c.from-residual-in-err-push-offer.result c.from-residual-in-err-push-offer.ensures.1 in rw (p.1, p.2) tt
+pub returns-in_err-push_offer : goal.returns-in_err-push_offer
+returns-in_err-push_offer g c =
+    let p = err_from_is_err_and c.from_residual-in_err-push_offer.result c.from_residual-in_err-push_offer.ensures.1 in rw (p.1, p.2) tt
 
 pub loop-number-preserved : goal.loop-number-preserved
 loop-number-preserved g c =
@@ -48,9 +48,9 @@ loop-number-preserved g c =
     let os = offers i c.args.cart [] in
     let k = counted i c.args.cart (length c.args.rows.now) (length c.args.places.now) c.requires.ready c.requires.known c.in-Ok.count (length os) c.in-Ok.ensures.counted in
     let d : Label g.row.C.Denot = record { cost = g.C.CostKind.kind.zero; item = [] } in
-    grows (offer_text g.C.Text.text) os (vec_items c.extend-from-slice.new.self) (vec_items c.loop-number.out) (vec_items c.push-offer.new.out) c.loop-number.number d
+    grows (offer_text g.C.Text.text) os (vec_items c.extend_from_slice.new.self) (vec_items c.loop-number.out) (vec_items c.push_offer.new.out) c.loop-number.number d
     (omega (arith, c.loop-number-test.true, k.count)) c.loop-number.invariant
-    (c.in-ok-push-offer.ensures ∙ ap (λ t. vec_items c.loop-number.out ++ t) (option_at g.C.Text.text os c.loop-number.number d (omega (arith, c.loop-number-test.true, k.count))))
+    (c.in_ok-push_offer.ensures ∙ ap (λ t. vec_items c.loop-number.out ++ t) (option_at g.C.Text.text os c.loop-number.number d (omega (arith, c.loop-number-test.true, k.count))))
 
 pub returns : goal.returns
 returns g c =
@@ -58,7 +58,7 @@ returns g c =
     let os = offers i c.args.cart [] in
     let k = counted i c.args.cart (length c.args.rows.now) (length c.args.places.now) c.requires.ready c.requires.known c.in-Ok.count (length os) c.in-Ok.ensures.counted in (
       k.fits,
-      cart_whole g.C.Text.text c.args.cart c.in-Ok.count os (vec_items c.args.out.now) (vec_items c.extend-from-slice.new.self) (vec_items c.loop-number.out) c.as-bytes.result.now k.count
-          (c.as-bytes.ensures.value ∙ c.in-ok-line.ensures) c.in-ok-extend-from-slice.ensures.items
-          (grown (offer_text g.C.Text.text) os (vec_items c.extend-from-slice.new.self) (vec_items c.loop-number.out) c.loop-number.number (omega (arith, c.loop-number-test.false, k.count)) c.loop-number.invariant),
+      cart_whole g.C.Text.text c.args.cart c.in-Ok.count os (vec_items c.args.out.now) (vec_items c.extend_from_slice.new.self) (vec_items c.loop-number.out) c.as_bytes.result.now k.count
+          (c.as_bytes.ensures.value ∙ c.in_ok-line.ensures) c.in_ok-extend_from_slice.ensures.items
+          (grown (offer_text g.C.Text.text) os (vec_items c.extend_from_slice.new.self) (vec_items c.loop-number.out) c.loop-number.number (omega (arith, c.loop-number-test.false, k.count)) c.loop-number.invariant),
     )

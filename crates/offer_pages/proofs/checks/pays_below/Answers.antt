@@ -8,7 +8,7 @@ use Rattle.offer_pages.proofs.checks.pays_below.Goals as goal
 pub unreachable-requires : goal.unreachable-requires
 unreachable-requires g c =
     let ms = get_or (g.F.Floor.moves c.args.floor.now) c.args.place [] in
-    omega (arith, at_past ms c.loop-number.number (sym c.in-default.ensures), c.move-count-number-end.ensures, c.loop-number-test.true)
+    omega (arith, at_past ms c.loop-number.number (sym c.in_default.ensures), c.move_count-number-end.ensures, c.loop-number-test.true)
 
 pub returns-then-step-lines : goal.returns-then-step-lines
 returns-then-step-lines g c =
@@ -23,4 +23,4 @@ loop-number-preserved g c =
 pub returns : goal.returns
 returns g c =
     let ms = get_or (g.F.Floor.moves c.args.floor.now) c.args.place [] in
-    decides_yes (all_reached (λ (m : Move). m.line < c.args.lines) ms c.loop-number.number (omega (arith, c.move-count-number-end.ensures, c.loop-number-test.false)) c.loop-number.invariant)
+    decides_yes (all_reached (λ (m : Move). m.line < c.args.lines) ms c.loop-number.number (omega (arith, c.move_count-number-end.ensures, c.loop-number-test.false)) c.loop-number.invariant)

@@ -20,7 +20,7 @@ line-pushed mark t lent after shown start marked mid end r text len l m n w s d 
 
 pub returns : goal.returns
 returns g c =
-    line-pushed (codes "QC ") (g.C.Text.text c.args.cost) c.as-mut-slice.result.now c.write-text.new.out c.as-slice.result.now
-    (vec_items c.args.out.now) (vec_items c.extend-from-slice.new.self) (vec_items c.extend-from-slice-2.new.self) (vec_items c.push.new.self) c.write-text.result c.in-ok-text.text c.in-Some.len
-    c.in-Some.ensures.0 c.in-ok-text.ensures.len c.as-mut-slice.ensures.len c.write-text.ensures c.as-slice.ensures.value
-    c.in-ok-extend-from-slice.ensures.items c.in-ok-extend-from-slice-2.ensures.items c.in-ok-push.ensures.items
+    line-pushed (codes "QC ") (g.C.Text.text c.args.cost) c.as_mut_slice.result.now c.write_text.new.out c.as_slice.result.now
+    (vec_items c.args.out.now) (vec_items c.extend_from_slice.new.self) (vec_items c.extend_from_slice-2.new.self) (vec_items c.push.new.self) c.write_text.result c.in_ok-text.text c.in-Some.len
+    c.in-Some.ensures.0 c.in_ok-text.ensures.len c.as_mut_slice.ensures.len c.write_text.ensures c.as_slice.ensures.value
+    c.in_ok-extend_from_slice.ensures.items c.in_ok-extend_from_slice-2.ensures.items c.in_ok-push.ensures.items

@@ -5,9 +5,9 @@ use Rattle.offer_pages.proofs.lines.push_numbers.Goals as goal
 
 pub loop-n-preserved : goal.loop-n-preserved
 loop-n-preserved c =
-    grows number_text c.args.places.now (vec_items c.args.out.now) (vec_items c.loop-n.out) (vec_items c.extend-from-slice.new.self) c.loop-n.n 0
+    grows number_text c.args.places.now (vec_items c.args.out.now) (vec_items c.loop-n.out) (vec_items c.extend_from_slice.new.self) c.loop-n.n 0
     c.loop-n-test.true c.loop-n.invariant
-    (c.in-ok-extend-from-slice.ensures.items ∙ ap (λ t. vec_items c.loop-n.out ++ t) (c.as-bytes.ensures.value ∙ c.in-ok-text.ensures))
+    (c.in_ok-extend_from_slice.ensures.items ∙ ap (λ t. vec_items c.loop-n.out ++ t) (c.as_bytes.ensures.value ∙ c.in_ok-text.ensures))
 
 pub returns : goal.returns
 returns c =

@@ -6,5 +6,5 @@ use Rattle.offer_pages.proofs.lines.push_places.Goals as goal
 pub returns : goal.returns
 returns c =
     three_parts (vec_items c.args.out.now) (codes "QP") (numbers_text c.args.places.now) (codes "\n")
-    (vec_items c.extend-from-slice.new.self) (vec_items c.push-numbers.new.out) (vec_items c.push.new.self)
-    c.in-ok-extend-from-slice.ensures.items c.in-ok-push-numbers.ensures c.in-ok-push.ensures.items
+    (vec_items c.extend_from_slice.new.self) (vec_items c.push_numbers.new.out) (vec_items c.push.new.self)
+    c.in_ok-extend_from_slice.ensures.items c.in_ok-push_numbers.ensures c.in_ok-push.ensures.items

@@ -7,25 +7,25 @@ use Rattle.offer_pages.proofs.page.page_of.Goals as goal
 pub returns-then-site-lt1 : goal.returns-then-site-lt1
 returns-then-site-lt1 g c = λ h. omega (arith, h, c.if-site-lt1.true, length-map c.args.site.now.carts.now cart_of)
 
-pub returns-then-not-on-floor : goal.returns-then-not-on-floor
-returns-then-not-on-floor g c =
-    (omega (arith, c.if-site-lt1.false, length-map c.args.site.now.carts.now cart_of), λ h. false≢true (c.if-not-on-floor.ensures.1 h))
+pub returns-then-not-on_floor : goal.returns-then-not-on_floor
+returns-then-not-on_floor g c =
+    (omega (arith, c.if-site-lt1.false, length-map c.args.site.now.carts.now cart_of), λ h. false≢true (c.if-not-on_floor.ensures.1 h))
 
-pub returns-then-not-lines-there : goal.returns-then-not-lines-there
-returns-then-not-lines-there g c =
-    (omega (arith, c.if-site-lt1.false, length-map c.args.site.now.carts.now cart_of), c.if-not-on-floor.ensures.0 refl, λ h. false≢true (c.if-not-lines-there.ensures.1 h))
+pub returns-then-not-lines_there : goal.returns-then-not-lines_there
+returns-then-not-lines_there g c =
+    (omega (arith, c.if-site-lt1.false, length-map c.args.site.now.carts.now cart_of), c.if-not-on_floor.ensures.0 refl, λ h. false≢true (c.if-not-lines_there.ensures.1 h))
 
-pub write-page-requires : goal.write-page-requires
-write-page-requires g c =
+pub write_page-requires : goal.write_page-requires
+write_page-requires g c =
     record {
       ready = record {
         ticks = c.requires.ticks;
-        many = c.as-mut-slice.ensures.len ∙ c.in-ok-rows.ensures;
-        long = omega (arith, c.as-mut-slice-2.ensures.len, c.in-ok-places.ensures.len);
+        many = c.as_mut_slice.ensures.len ∙ c.in_ok-rows.ensures;
+        long = omega (arith, c.as_mut_slice-2.ensures.len, c.in_ok-places.ensures.len);
         checked = record {
           some_cart = omega (arith, c.if-site-lt1.false, length-map c.args.site.now.carts.now cart_of);
-          on_floor = c.if-not-on-floor.ensures.0 refl;
-          lines = c.if-not-lines-there.ensures.0 refl;
+          on_floor = c.if-not-on_floor.ensures.0 refl;
+          lines = c.if-not-lines_there.ensures.0 refl;
         };
       };
       few = c.requires.few;

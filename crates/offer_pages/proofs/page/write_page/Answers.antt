@@ -14,26 +14,26 @@ use Rattle.offer_pages.proofs.page.write_page.Goals as goal
 pub loop-cart-init : goal.loop-cart-init
 loop-cart-init g c = (c.new-out.ensures.items, λ n h. absurd (omega arith))
 
-pub push-cart-requires : goal.push-cart-requires
-push-cart-requires g c =
+pub push_cart-requires : goal.push_cart-requires
+push_cart-requires g c =
     record {
       ready = record { ticks = c.requires.ready.ticks; many = c.loop-cart.auto.rows ∙ c.requires.ready.many; long = c.loop-cart.auto.places ∙ c.requires.ready.long; checked = c.requires.ready.checked };
       known = omega (arith, c.loop-cart-test.true, length-map c.args.site.now.carts.now cart_of);
     }
 
-pub returns-in-err-push-cart : goal.returns-in-err-push-cart
-returns-in-err-push-cart g c =
+pub returns-in_err-push_cart : goal.returns-in_err-push_cart
+returns-in_err-push_cart g c =
     let i = meant g.F.Floor.moves g.C.CostKind.kind c.args.site.now in
-    let p = err_from_is_err_and c.from-residual.result c.from-residual.ensures.1 in
+    let p = err_from_is_err_and c.from_residual.result c.from_residual.ensures.1 in
     rw (p.1, p.2)
-    (page-stopped g.C.Text.text i c.loop-cart.cart (vec_items c.loop-cart.out) (vec_items c.push-cart.new.out) c.in-err-push-cart.field-0.0
-    (omega (arith, c.loop-cart-test.true, length-map c.args.site.now.carts.now cart_of)) c.requires.ready.checked c.in-err-push-cart.ensures)
+    (page-stopped g.C.Text.text i c.loop-cart.cart (vec_items c.loop-cart.out) (vec_items c.push_cart.new.out) c.in_err-push_cart.field-0.0
+    (omega (arith, c.loop-cart-test.true, length-map c.args.site.now.carts.now cart_of)) c.requires.ready.checked c.in_err-push_cart.ensures)
 
 pub loop-cart-preserved : goal.loop-cart-preserved
 loop-cart-preserved g c =
     let i = meant g.F.Floor.moves g.C.CostKind.kind c.args.site.now in
-    let added = c.in-ok-push-cart.ensures in (
-      cart_grows (λ n. cart_text g.C.Text.text n (offers i n [])) (vec_items c.loop-cart.out) (vec_items c.push-cart.new.out) c.loop-cart.cart c.loop-cart.invariant.0 added.1,
+    let added = c.in_ok-push_cart.ensures in (
+      cart_grows (λ n. cart_text g.C.Text.text n (offers i n [])) (vec_items c.loop-cart.out) (vec_items c.push_cart.new.out) c.loop-cart.cart c.loop-cart.invariant.0 added.1,
       below_more (λ n. label_count i n [] ≤ 2048) c.loop-cart.cart c.loop-cart.invariant.1 added.0,
     )
 

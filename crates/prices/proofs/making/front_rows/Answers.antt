@@ -16,5 +16,5 @@ cut-front {C} k P last kept rows n e l f =
 
 pub returns : goal.returns
 returns g c =
-    cut-front g.C.CostKind.kind _ c.front-of.new.rows (vec_items c.truncate.new.self) c.in-ok-rows.rows c.in-Some.kept
-    c.truncate.ensures.items (c.front-of.auto.rows ∙ c.as-mut-slice.ensures.len) c.in-Some.ensures.front
+    cut-front g.C.CostKind.kind _ c.front_of.new.rows (vec_items c.truncate.new.self) c.in_ok-rows.rows c.in-Some.kept
+    c.truncate.ensures.items (c.front_of.auto.rows ∙ c.as_mut_slice.ensures.len) c.in-Some.ensures.front

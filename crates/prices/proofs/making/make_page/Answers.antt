@@ -15,14 +15,14 @@ same-page text out lent rows read n e rs ns = e ∙ ap (λ r. page text (costs_o
 
 pub returns : goal.returns
 returns g c =
-    let given = c.in-ok-given.given in
-    let front = c.in-ok-front.front in
+    let given = c.in_ok-given.given in
+    let front = c.in_ok-front.front in
     let P : List (Row g.row.C.Denot) → Type 0 = λ rs. Front g.C.CostKind.kind (Has (costs_of (entries rs))) (costs_in front) in
     record {
-      few = c.if-input-gt-MOST-BYTES.false;
+      few = c.if-input-gt-MOST_BYTES.false;
       costs = costs_in given;
-      says = c.in-ok-given.ensures;
+      says = c.in_ok-given.ensures;
       kept = costs_in front;
-      front = subst P c.as-slice.ensures.value c.in-ok-front.ensures;
-      prints = same-page g.C.Text.text _ c.as-slice-2.result.now front.items c.len.result (length (costs_in given)) c.in-ok-page.ensures c.as-slice-2.ensures.value (c.len.ensures ∙ counted given);
+      front = subst P c.as_slice.ensures.value c.in_ok-front.ensures;
+      prints = same-page g.C.Text.text _ c.as_slice-2.result.now front.items c.len.result (length (costs_in given)) c.in_ok-page.ensures c.as_slice-2.ensures.value (c.len.ensures ∙ counted given);
     }

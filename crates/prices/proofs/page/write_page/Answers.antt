@@ -30,10 +30,10 @@ loop-i-init g c = c.new-out.ensures.items
 
 pub loop-i-preserved : goal.loop-i-preserved
 loop-i-preserved g c =
-    row_more g.C.Text.text c.args.rows.now c.loop-i.i c.index-rows-i.result (vec_items c.loop-i.out) (vec_items c.push-line.new.out)
-    c.loop-i-test.true c.loop-i.invariant c.in-ok-push-line.ensures
+    row_more g.C.Text.text c.args.rows.now c.loop-i.i c.index-rows-i.result (vec_items c.loop-i.out) (vec_items c.push_line.new.out)
+    c.loop-i-test.true c.loop-i.invariant c.in_ok-push_line.ensures
 
 pub returns : goal.returns
 returns g c =
-    rows-done g.C.Text.text c.args.rows.now c.loop-i.i c.args.read (vec_items c.loop-i.out) c.as-bytes.result.now (vec_items c.extend-from-slice.new.self)
-    c.loop-i-test.false c.loop-i.invariant (c.as-bytes.ensures.value ∙ c.in-ok-last.ensures) c.in-ok-extend-from-slice.ensures.items
+    rows-done g.C.Text.text c.args.rows.now c.loop-i.i c.args.read (vec_items c.loop-i.out) c.as_bytes.result.now (vec_items c.extend_from_slice.new.self)
+    c.loop-i-test.false c.loop-i.invariant (c.as_bytes.ensures.value ∙ c.in_ok-last.ensures) c.in_ok-extend_from_slice.ensures.items

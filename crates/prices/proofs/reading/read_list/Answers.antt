@@ -23,10 +23,10 @@ loop-rest-smaller g c = shrinks c.loop-rest.rest.now c.in-Some.bytes.now c.in-So
 pub loop-rest-preserved : goal.loop-rest-preserved
 loop-rest-preserved g c =
     let less = shrinks c.loop-rest.rest.now c.in-Some.bytes.now c.in-Some.below.now c.in-Some.ensures.0 in
-    let longer = c.in-ok-push.ensures.len in (
+    let longer = c.in_ok-push-in-Ok.ensures.len in (
       said_more g.C.Priced.line c.args.input.now c.loop-rest.rest.now c.in-Some.bytes.now c.in-Some.below.now
           (costs_in c.loop-rest.rows) (costs_in c.push.new.self) c.in-Ok.cost
-          c.loop-rest.invariant.0 c.in-Some.ensures.0 c.in-Ok.ensures (row_pushed (vec_items c.loop-rest.rows) (vec_items c.push.new.self) (record { cost = c.in-Ok.cost; tag = 0 }) c.in-ok-push.ensures.items),
+          c.loop-rest.invariant.0 c.in-Some.ensures.0 c.in-Ok.ensures (row_pushed (vec_items c.loop-rest.rows) (vec_items c.push.new.self) (record { cost = c.in-Ok.cost; tag = 0 }) c.in_ok-push-in-Ok.ensures.items),
       omega arith,
     )
 
@@ -35,14 +35,14 @@ returns g c =
     said_all g.C.Priced.line c.args.input.now c.loop-rest.rest.now (costs_in c.loop-rest.rows) c.loop-rest.invariant.0
     (eqb-true _ _ (sym c.loop-rest-test.ensures))
 
-pub returns-in-default : goal.returns-in-default
-returns-in-default g c =
+pub returns-in_default : goal.returns-in_default
+returns-in_default g c =
     record {
       above = costs_in c.loop-rest.rows;
       from = c.loop-rest.rest.now;
       parts = c.loop-rest.invariant.0;
       number = ap (λ n. n + 1) (c.len-line.ensures ∙ counted c.loop-rest.rows);
-      wrong = (some_left c.loop-rest.rest.now c.loop-rest-test.ensures, c.in-default.ensures);
+      wrong = (some_left c.loop-rest.rest.now c.loop-rest-test.ensures, c.in_default.ensures);
     }
 
 pub returns-in-Err : goal.returns-in-Err

@@ -8,15 +8,15 @@ returns-then-bytes-ne16 c = (other_length c.args.bytes.now c.if-bytes-ne16.true,
 pub loop-b-init : goal.loop-b-init
 loop-b-init c = (no_hex_digits 0, omega arith)
 
-pub returns-in-default : goal.returns-in-default
-returns-in-default c = (other_byte c.args.bytes.now c.loop-b.b-index c.loop-b-test.true c.in-default.ensures, λ never. never)
+pub returns-in_default : goal.returns-in_default
+returns-in_default c = (other_byte c.args.bytes.now c.loop-b.b-index c.loop-b-test.true c.in_default.ensures, λ never. never)
 
-pub overflow-mul-bits : goal.overflow-mul-bits
-overflow-mul-bits c =
+pub overflow_mul-bits : goal.overflow_mul-bits
+overflow_mul-bits c =
     omega (arith, hex_small c.loop-b.b-index c.loop-b.bits c.in-Some.digit (omega arith) c.loop-b.invariant.1 c.in-Some.ensures.0)
 
-pub overflow-add-bits : goal.overflow-add-bits
-overflow-add-bits c =
+pub overflow_add-bits : goal.overflow_add-bits
+overflow_add-bits c =
     omega (arith, hex_small c.loop-b.b-index c.loop-b.bits c.in-Some.digit (omega arith) c.loop-b.invariant.1 c.in-Some.ensures.0)
 
 pub loop-b-preserved : goal.loop-b-preserved
