@@ -27,8 +27,9 @@ fn read_lane(words: &mut Words<'_>) -> anyhow::Result<LaneRow> {
 fn lanes_refused(refusal: FloorRefusal) -> anyhow::Error {
     match refusal {
         FloorRefusal::BadSize => anyhow!("the floor has not 1 to 128 places"),
-        FloorRefusal::BadRow(_) =>
-            anyhow!("a lane names an absent place, or is the ninth of its place"),
+        FloorRefusal::BadRow(_) => anyhow!(
+            "a lane names an absent place, or is the ninth of its place"
+        ),
     }
 }
 

@@ -5,5 +5,5 @@ use Rattle.site_trials.proofs.run.Goals as goal
 pub loop-name-smaller : goal.loop-name-smaller
 loop-name-smaller c =
     let below = c.in-Some.below.now in
-    let n = c.site-length-length.result in
+    let n = c.site_length-length.result in
     omega (arith, ap length (take_rest below n), length-drop n below, ap length c.in-Some.ensures.0, length-append c.in-Some.name.now (10 ∷ below))
