@@ -1,7 +1,6 @@
 -- An instance that passed the checks is sound, so the offers of its carts are right.
 -- Assumes nothing.
-use Rattle.std.proofs.Common.{ℕ, ◌<◌, [], length, ◌∙◌}
-use Rattle.std.specs.List.{AllByRecursion}
+use Rattle.std.proofs.Common.{ℕ, ◌<◌, [], ◌∙◌}
 use Rattle.std.proofs.ByRecursion.{All-weaker}
 use Rattle.std.proofs.lemmas.List.{length-reverse}
 use Rattle.floors.specs.Floors.{FloorBounds}

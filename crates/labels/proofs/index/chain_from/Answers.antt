@@ -1,4 +1,4 @@
-use Rattle.std.proofs.Common.{◌-◌, [], length, get_or, sym, arith}
+use Rattle.std.proofs.Common.{◌-◌, [], get_or, sym, arith}
 use Rattle.floors.specs.Floors.{move_of}
 use Rattle.rules.proofs.Members.{at_past}
 use Rattle.labels.proofs.Chaining.{after_none, after_more, after_all, move_inside}
