@@ -3,6 +3,7 @@
 // Prints the costs of a price list that no other dominates: `front costs` or `front zones`, with the list on standard input.
 use prices::{Answer, MOST_BYTES, front_page};
 use std::io::{Read, Write};
+use std::process::ExitCode;
 use std::{env, io};
 
 #[cfg(test)]
@@ -37,9 +38,10 @@ fn run(rt: &HostRuntime) -> io::Result<bool> {
     }
 }
 
-fn main(rt: HostRuntime) -> io::Result<()> {
+// A list that is refused has its one line already, so its status is told without an error.
+fn main(rt: HostRuntime) -> io::Result<ExitCode> {
     if run(&rt)? {
-        return Ok(());
+        return Ok(ExitCode::SUCCESS);
     }
-    Err(io::Error::from(io::ErrorKind::InvalidInput))
+    Ok(ExitCode::FAILURE)
 }
