@@ -3,7 +3,7 @@
 
 Run once, at the top, after the toolchain's own port script. A name that specs/ or a lemma file of proofs/ declares with dashes is
 written in snake case, everywhere it stands, and so are the variables there; in a lemma's name a dash stays where it joins the names
-of two functions, as in length-placed. Comments keep their words, but for names in backticks; so do strings. Names that Rattle makes (in proofs/FUNCTION/)
+of two functions, as in length-placed. Comments keep their words, but for names in backticks. Names that Rattle makes (in proofs/FUNCTION/)
 are not touched: no name of ours is spelled like one."""
 import glob
 import re

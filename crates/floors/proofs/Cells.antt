@@ -79,9 +79,9 @@ extended_more moves p more again h =
 
 -- one cell's moves, side by side: each side adds one move at most
 
-pub entering-few : (cells : List ℕ) (to : Option ℕ) → length (entering cells to) ≤ 1
-entering-few cells None = omega arith
-entering-few cells (Some p) = cond_both (blocked cells p) [] _ (λ ms. length ms ≤ 1) (λ e. omega arith) (λ e. omega arith)
+pub entering_few : (cells : List ℕ) (to : Option ℕ) → length (entering cells to) ≤ 1
+entering_few cells None = omega arith
+entering_few cells (Some p) = cond_both (blocked cells p) [] _ (λ ms. length ms ≤ 1) (λ e. omega arith) (λ e. omega arith)
 
 joined_few : {X A : Type 0} (f : X → List A) → ((x : X) → length (f x) ≤ 1) → (xs : List X) → length (flat_map f xs) ≤ length xs
 joined_few f h [] = omega arith

@@ -35,15 +35,15 @@ module _ {C : Type 0} (k : Kind C) where
   pub added_too_long : (es : List (Entry C ℕ)) (x : Entry C ℕ) (room : ℕ) → covered k es x.cost ≡ false → room ≤ length (unbeaten k es x.cost) → room < length (added k es x)
   added_too_long es x room new le = omega (arith, ap length (added_new es x new), length-placed k (unbeaten k es x.cost) x)
 
-  unbeaten-few : (es : List (Entry C ℕ)) (c : C) → length (unbeaten k es c) ≤ length es
-  unbeaten-few [] c = omega arith
-  unbeaten-few (e ∷ es) c =
-      let rest = unbeaten-few es c in
+  unbeaten_few : (es : List (Entry C ℕ)) (c : C) → length (unbeaten k es c) ≤ length es
+  unbeaten_few [] c = omega arith
+  unbeaten_few (e ∷ es) c =
+      let rest = unbeaten_few es c in
       elim (cases_Bool (k.at_most c e.cost)) [ inl h ↦ rw h (omega arith) | inr h ↦ rw h (omega arith) ]
 
   -- while a row is free, those that stay leave it free
   pub stay_with_room : (xs : List (Row C)) (len : ℕ) (c : C) → len < length xs → length (unbeaten k (in_use len xs) c) < length xs
-  stay_with_room xs len c free = omega (arith, unbeaten-few (in_use len xs) c, length-map (take len xs) entry_of, length-take len xs)
+  stay_with_room xs len c free = omega (arith, unbeaten_few (in_use len xs) c, length-map (take len xs) entry_of, length-take len xs)
 
-  pub added-few : (es : List (Entry C ℕ)) (x : Entry C ℕ) → covered k es x.cost ≡ false → length (added k es x) ≤ length es + 1
-  added-few es x new = omega (arith, ap length (added_new es x new), length-placed k (unbeaten k es x.cost) x, unbeaten-few es x.cost)
+  pub added_few : (es : List (Entry C ℕ)) (x : Entry C ℕ) → covered k es x.cost ≡ false → length (added k es x) ≤ length es + 1
+  added_few es x new = omega (arith, ap length (added_new es x new), length-placed k (unbeaten k es x.cost) x, unbeaten_few es x.cost)

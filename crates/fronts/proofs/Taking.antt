@@ -14,7 +14,7 @@ use Rattle.fronts.specs.Changes.{Adds}
 use Rattle.fronts.specs.Lists.{used_after_add}
 use Rattle.fronts.specs.Whole.{Fits, Whole, Outgrown}
 use Rattle.fronts.proofs.Parts.{take_min, drop_later}
-use Rattle.fronts.proofs.Additions.{added-few}
+use Rattle.fronts.proofs.Additions.{added_few}
 use Rattle.fronts.proofs.WholeFronts.{front_more, is_whole}
 
 module _ {C : Type 0} (k : Kind C) (given : List (Row C)) where
@@ -82,7 +82,7 @@ module _ {C : Type 0} (k : Kind C) (given : List (Row C)) where
   taking_outgrown laws start rows rows' last len i x h lt read adds e =
       let next = next_front rows len i x h.held lt read in
       let es = in_use len rows in
-      let few : length (added k es (entry_of x)) ≤ length es + 1 = added-few k es (entry_of x) adds.0 in
+      let few : length (added k es (entry_of x)) ≤ length es + 1 = added_few k es (entry_of x) adds.0 in
       let used : length es ≡ min len (length rows) = length-map (take len rows) entry_of ∙ length-take len rows in
       let all : length rows ≤ len = omega (arith, adds.1) in
       let same : last ≡ rows = e ∙ adds.2 in

@@ -21,7 +21,7 @@ use Rattle.labels.specs.Arrivals.{LandingOf}
 use Rattle.labels.specs.Landings.{Lands, landed, shown_offer}
 use Rattle.labels.specs.Queries.{Asked, place_count, offers_of}
 use Rattle.labels.specs.Rows.{shown, trace_at}
-use Rattle.labels.proofs.Arriving.{lands, landed_is, offers-few}
+use Rattle.labels.proofs.Arriving.{lands, landed_is, offers_few}
 
 module _ {C : Type 0} (a : Asked C) (rows : ℕ) where
   -- the answers of the checks decide
@@ -78,7 +78,7 @@ module _ {C : Type 0} (a : Asked C) (l : Landing) (at : LandingOf a l) (rows : L
   solved_offers = ap (front_of a.inst.kind) (sym (landed_is a l at rows starts end s.held s.inside))
 
   pub solved_few : Laws a.inst.kind → length (offers_of a) ≤ 65535
-  solved_few laws = omega (arith, offers-few a laws, s.count, s.held.within, s.few)
+  solved_few laws = omega (arith, offers_few a laws, s.count, s.held.within, s.few)
 
   -- the label of an offer is as long as its arrival says
   pub offer_long : (ls : List (Label C)) (o : Offer C) (n : ℕ) → o.tick ≤ l.horizon → Some (shown_offer l ls o) ≡ slice_get (offers_of a) n → length (trace_at ls o.label) ≡ o.tick + 1

@@ -147,5 +147,5 @@ module _ {C : Type 0} (a : Asked C) where
       let rest = joined_lists (map (arriving a.inst a.cart a.constraints) ts) in
       omega (arith, length-append here rest, tick_few t, ticks_few ts, total_append (row_of a t) (joined_lists (map (row_of a) ts)))
 
-  pub offers-few : Laws a.inst.kind → length (offers_of a) ≤ label_total a
-  offers-few laws = omega (arith, front_short a.inst.kind laws (arrivals a.inst a.cart a.constraints), ticks_few (range_with_len 0 (suc a.inst.horizon)))
+  pub offers_few : Laws a.inst.kind → length (offers_of a) ≤ label_total a
+  offers_few laws = omega (arith, front_short a.inst.kind laws (arrivals a.inst a.cart a.constraints), ticks_few (range_with_len 0 (suc a.inst.horizon)))

@@ -32,8 +32,8 @@ module _ {X : Type 0} (xs : List X) (j : ℕ) where
         let z : ◌≡◌ {A = ℕ} 0 1 = cc s in absurd (omega arith)
   ]
 
-  pub nth-over : X → None ≡ slice_get xs j → length xs ≤ j
-  nth-over d h = elim (cases_lt j (length xs)) [
+  pub nth_over : X → None ≡ slice_get xs j → length xs ≤ j
+  nth_over d h = elim (cases_lt j (length xs)) [
     | inl lt ↦
         let s : None ≡ Some (get_or xs j d) = h ∙ slice_get-get_or xs j d lt in
         let z : ◌≡◌ {A = ℕ} 0 1 = cc s in absurd (omega arith)
@@ -109,4 +109,4 @@ module _ {C : Type 0} (k : Kind C) (laws : Laws k) (xs : List (Label C)) (was ro
   filled_full r h same full = omega (arith, (filled_next r h).0, f.from)
 
   pub filled_done : None ≡ next → Grown was rows start (front_of k xs) (Some end)
-  filled_done h = (f.within, f.holds ∙ ap (λ l. shown (take start was) ++ l) (take_all (end - start) (front_of k xs) (nth-over (front_of k xs) (end - start) (record { cost = k.zero; item = [] }) (h ∙ selected))))
+  filled_done h = (f.within, f.holds ∙ ap (λ l. shown (take start was) ++ l) (take_all (end - start) (front_of k xs) (nth_over (front_of k xs) (end - start) (record { cost = k.zero; item = [] }) (h ∙ selected))))

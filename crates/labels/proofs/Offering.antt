@@ -13,7 +13,7 @@ use Rattle.labels.specs.declared.row.LabelRow.{LabelRow}
 use Rattle.labels.specs.Landings.{cell_of, run_of, standing, landed_from, landed, Lands, row_costs, shown_offer, shown_lead, dominated_by, goes_first}
 use Rattle.labels.specs.Picks.{better, picked, dominated, last_cost, out_of_turn}
 use Rattle.labels.specs.Rows.{shown}
-use Rattle.labels.proofs.Filling.{nth_here, nth-over}
+use Rattle.labels.proofs.Filling.{nth_here, nth_over}
 use Rattle.labels.proofs.Moving.{picked-append}
 use Rattle.labels.proofs.Picking.{last_push, picks_after}
 use Rattle.labels.proofs.Showing.{length-shown, costs_shown, cost-at}
@@ -154,8 +154,8 @@ module _ {C : Type 0} (k : Kind C) (laws : Laws k) (l : Landing) (ls xs : List (
       let r = nth_here (front_of k xs) n (shown_offer l ls o) (offer_here o h) in
       (omega (arith, r.0), sym (ap (last_cost k None) r.1 ∙ last_push k None (take n (front_of k xs)) (shown_offer l ls o)))
 
-  pub offers-over : None ≡ picked k (out_of_turn k last xs) None xs → n ≡ length (front_of k xs)
-  offers-over h = omega (arith, nth-over (front_of k xs) n (record { cost = k.zero; item = [] }) (h ∙ next_is))
+  pub offers_over : None ≡ picked k (out_of_turn k last xs) None xs → n ≡ length (front_of k xs)
+  offers_over h = omega (arith, nth_over (front_of k xs) n (record { cost = k.zero; item = [] }) (h ∙ next_is))
 
 -- the arrivals are no more than fit in a machine's number
 module _ {C : Type 0} (rows : List (LabelRow C)) (starts : List ℕ) (l : Landing) (end : ℕ) (h : Lands rows starts l end) where
@@ -170,8 +170,8 @@ module _ {C : Type 0} (rows : List (LabelRow C)) (starts : List ℕ) (l : Landin
       let hi = get_or starts (cell_of l t + 1) 0 in
       omega (arith, length-map {B = Label C} run (λ (x : Label C). record { cost = x.cost; item = replicate (l.horizon - t) l.goal ++ x.item }), length-drop (get_or starts (cell_of l t) 0) (take hi ls), length-take hi ls, length-shown (take end rows), length-take-le end rows h.within, h.within, h.few)
 
-  pub landed-few : length (landed starts l (shown (take end rows))) ≤ 65 * 65535
-  landed-few =
+  pub landed_few : length (landed starts l (shown (take end rows))) ≤ 65 * 65535
+  landed_few =
       let n = suc l.horizon - l.first in
       let few : n ≤ 65 = omega (arith, h.ticks) in
       omega (arith, joined_few (λ t. standing (l.horizon - t) l.goal (run_of starts l t (shown (take end rows)))) run_few l.first n, mul-le-mul_right 65535 few)

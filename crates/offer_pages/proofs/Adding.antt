@@ -69,9 +69,9 @@ some_offer (o ∷ os) (suc n) h e = some_offer os n (omega arith) e
 
 module _ {C : Type 0} (text : C → List ℕ) (i : Instance C) where
   -- a cart whose labels do not fit stops the page
-  pub page-stopped : (cart : ℕ) (was after : List ℕ) (stop : Stop) → cart < cart_count i → Checked i → CartAdded text i cart was after (Err stop) → PageAdded text i (Err stop)
-  page-stopped cart was after Memory known c h = tt
-  page-stopped cart was after (Refused fault) known c h =
+  pub page_stopped : (cart : ℕ) (was after : List ℕ) (stop : Stop) → cart < cart_count i → Checked i → CartAdded text i cart was after (Err stop) → PageAdded text i (Err stop)
+  page_stopped cart was after Memory known c h = tt
+  page_stopped cart was after (Refused fault) known c h =
       subst (FailsAt i) (sym h.0) (c, λ fit. omega (arith, fit cart known, h.1))
 
 -- three parts, one after another

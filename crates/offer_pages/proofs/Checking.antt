@@ -25,14 +25,14 @@ module _ {X : Type 0} (P : X → Type 0) where
   all_reached xs n h all = subst (λ (t : List X). AllByRecursion P t) (take_all n xs h) all
 
   -- the element at a place fails
-  pub fails-at : (xs : List X) (n : ℕ) (d : X) → n < length xs → (P (get_or xs n d) → ⊥) → AllByRecursion P xs → ⊥
-  fails-at xs n d h no_p all = no_p (All-get_or P xs n d h all)
+  pub fails_at : (xs : List X) (n : ℕ) (d : X) → n < length xs → (P (get_or xs n d) → ⊥) → AllByRecursion P xs → ⊥
+  fails_at xs n d h no_p all = no_p (All-get_or P xs n d h all)
 
   -- the same, for the element that was looked up
   pub found_fails : (xs : List X) (n : ℕ) (x : X) → get_elem? xs n ≡ some x → (P x → ⊥) → AllByRecursion P xs → ⊥
   found_fails xs n x e no_p all =
       let at = at_place xs n x e in
-      fails-at xs n x at.0 (λ p. no_p (subst P (at.1 x) p)) all
+      fails_at xs n x at.0 (λ p. no_p (subst P (at.1 x) p)) all
 
   pub found_more : (xs : List X) (n : ℕ) (x : X) → get_elem? xs n ≡ some x → P x → AllByRecursion P (take n xs) → AllByRecursion P (take (n + 1) xs)
   found_more xs n x e p all =
@@ -44,5 +44,5 @@ module _ {X Y : Type 0} (P : Y → Type 0) (f : X → Y) where
   pub all_meant : (xs : List X) (n : ℕ) → length xs ≤ n → AllByRecursion (λ x. P (f x)) (take n xs) → AllByRecursion P (map f xs)
   all_meant xs n h all = All-map P f xs (all_reached (λ x. P (f x)) xs n h all)
 
-  pub meant-fails : (xs : List X) (n : ℕ) (d : X) → n < length xs → (P (f (get_or xs n d)) → ⊥) → AllByRecursion P (map f xs) → ⊥
-  meant-fails xs n d h no_p all = fails-at (λ x. P (f x)) xs n d h no_p (all_unmap P f xs all)
+  pub meant_fails : (xs : List X) (n : ℕ) (d : X) → n < length xs → (P (f (get_or xs n d)) → ⊥) → AllByRecursion P (map f xs) → ⊥
+  meant_fails xs n d h no_p all = fails_at (λ x. P (f x)) xs n d h no_p (all_unmap P f xs all)

@@ -1,4 +1,5 @@
 -- Lines of zone sets: sixteen digits to the base 16, a digit at a time.
+-- Assumes nothing.
 use Rattle.std.specs.Prelude.{◌≡◌, ℕ, zero, suc, ◌+◌, ◌*◌, ◌/◌, ◌%◌, ◌^◌, ◌<◌, ◌≤◌, List, [], ◌∷◌, ◌++◌, length, take, ◌≢◌, slice_index, refl}
 use Rattle.std.proofs.Common.{ap, sym, subst, ◌∙◌, pow-suc, add-one, arith, lit<}
 use Rattle.std.proofs.Math.Nat.{pow-le-pow_right}

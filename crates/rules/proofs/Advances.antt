@@ -126,12 +126,12 @@ module _ {C : Type 0} (i : Instance C) (room : Limits) where
     advanced : Ended (advance i room budget q)
     advanced = takes budget 0 0 q (omega arith) no_turn
 
-    ended-over : (a : Advance C) → Ended a → (n e : ℕ) × (why : Ending) × (r : Search C) × (a ≡ over n e why r)
-    ended-over (going n e r) h = absurd h
-    ended-over (over n e why r) h = (n, e, why, r, refl)
+    ended_over : (a : Advance C) → Ended a → (n e : ℕ) × (why : Ending) × (r : Search C) × (a ≡ over n e why r)
+    ended_over (going n e r) h = absurd h
+    ended_over (over n e why r) h = (n, e, why, r, refl)
 
     answer : (n e : ℕ) × (why : Ending) × (r : Search C) × (advance i room budget q ≡ over n e why r)
-    answer = ended-over (advance i room budget q) advanced
+    answer = ended_over (advance i room budget q) advanced
 
     answered : (n e : ℕ) (why : Ending) (r : Search C) → advance i room budget q ≡ over n e why r → Advanced i room budget q n e why r
     answered n e why r a = subst Ended a advanced

@@ -88,8 +88,8 @@ module _ {C : Type 0} (i : Instance C) where
       let numbered = undone-numbered b below ns rows long others in
       left_branch below (undone b ns) rows.3 numbered.0 (numbered_others below (undone b ns) numbered) l
 
-  root-numbered : (ns : List ℕ) → IsRoot i 0 ns → Numbered [] ns
-  root-numbered ns r =
+  root_numbered : (ns : List ℕ) → IsRoot i 0 ns → Numbered [] ns
+  root_numbered ns r =
       let w = free_within i ns r in (
         length_within i (free_offers i) ns w ∙ length_free i,
         λ c known. (at_place (offers i c []) (get_or ns c 0) _ (free_picked i ns c (record { cost = i.kind.zero; item = [] }) w known)).0,
@@ -115,5 +115,5 @@ module _ {C : Type 0} (i : Instance C) where
     open_branch bans cs (here e) =
         let bans = map standing q.trail in
         rw (costs_are i bans q inv.sized (inv.settled e)) (costs_branch bans q.numbers (inv.sized.0, λ c known. held bans c (inv.settled e c known)))
-    open_branch bans cs (root ns r n) = costs_branch [] ns (root-numbered ns r)
+    open_branch bans cs (root ns r n) = costs_branch [] ns (root_numbered ns r)
     open_branch bans cs (left l) = left_branch q.trail q.numbers inv.rows inv.sized.0 open_others l

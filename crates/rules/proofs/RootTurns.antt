@@ -25,16 +25,16 @@ module _ {C : Type 0} (i : Instance C) where
         let same : ◌≡◌ {A = Type 0} (NotTaken q ns) (cond b (RootBefore q.numbers ns) (Unit {0})) = λ j. cond (e j) (RootBefore (root_numbers (bare j) q.numbers) ns) (Unit {0}) in
         (λ h. subst (λ X. X) same h, λ h. subst (λ X. X) (sym same) h)
 
-    after-root : q.begun ≡ true → (o : Option (List ℕ)) → Next i q.numbers free o → NextRoot i q (root_or_end i q o)
-    after-root on none next = none_left (λ ns r n. next ns (free_within i ns r) ((not_taken true on ns).0 n))
-    after-root on (some ns) next =
+    after_root : q.begun ≡ true → (o : Option (List ℕ)) → Next i q.numbers free o → NextRoot i q (root_or_end i q o)
+    after_root on none next = none_left (λ ns r n. next ns (free_within i ns r) ((not_taken true on ns).0 n))
+    after_root on (some ns) next =
         taken ns (free_root i ns next.0) ((not_taken true on ns).1 next.1) (λ ms r n. next.2 ms (free_within i ms r) ((not_taken true on ms).0 n))
 
     pub next_root_is : NextRoot i q (cond (none_empty free) (next_root i q) (ended q))
     next_root_is =
         cond_both (none_empty free) _ _ (NextRoot i q)
         (λ offered. cond_both q.begun _ _ (NextRoot i q)
-        (λ on. after-root on (after q.numbers free) (after_next i q.numbers free offered))
+        (λ on. after_root on (after q.numbers free) (after_next i q.numbers free offered))
         (λ off.
         let zeros = first_root i offered in
         taken (replicate (cart_count i) 0) (free_root i (replicate (cart_count i) 0) zeros.0) ((not_taken false off (replicate (cart_count i) 0)).1 tt)
@@ -54,13 +54,13 @@ module _ {C : Type 0} (i : Instance C) (room : Limits) where
         | inr rest ↦ let (c, from, to, more) = not_all_fit (k + 1) n rest in (c, omega arith, omega arith, more)
       ]
 
-  pub all_fit-few : (k n : ℕ) → all_fit i room (range_with_len k n) ≡ true → Exceeded k n → ⊥
-  all_fit-few k zero h x = omega (arith, x.1, x.2)
-  all_fit-few k (suc n) h (c, from, to, more) =
+  pub all_fit_few : (k n : ℕ) → all_fit i room (range_with_len k n) ≡ true → Exceeded k n → ⊥
+  all_fit_few k zero h x = omega (arith, x.1, x.2)
+  all_fit_few k (suc n) h (c, from, to, more) =
       let parts = and_parts (leb (label_count i k []) room.labels) (all_fit i room (range_with_len (k + 1) n)) h in
       elim (cases_eq c k) [
         | inl e ↦ omega (arith, leb-true _ _ parts.0, ap (λ a. label_count i a []) e)
-        | inr apart ↦ all_fit-few (k + 1) n parts.1 (c, omega arith, omega arith, more)
+        | inr apart ↦ all_fit_few (k + 1) n parts.1 (c, omega arith, omega arith, more)
       ]
 
 before_once : (ns ms : List ℕ) → RootBefore ns ms → RootBefore ms ns → ⊥

@@ -15,7 +15,7 @@ use Rattle.rules.specs.Turns.{its_cart, next_number, to_second, Beaten, staying,
 use Rattle.rules.proofs.Members.{at_place, at_past}
 use Rattle.rules.proofs.Fronts.{covered_true, covered_false, covered-cost}
 use Rattle.rules.proofs.Conflicts.{is_first, is_none, first_conflict_right}
-use Rattle.rules.proofs.RootTurns.{next_root_is, not_all_fit, all_fit-few, one_next_root}
+use Rattle.rules.proofs.RootTurns.{next_root_is, not_all_fit, all_fit_few, one_next_root}
 
 past_none : {X : Type 0} (xs : List X) (n : ℕ) → length xs ≤ n → (o : Option X) → get_elem? xs n ≡ o → o ≡ none
 past_none xs n past none e = refl
@@ -137,11 +137,11 @@ module _ {C : Type 0} (i : Instance C) (room : Limits) where
           (λ h. let x = not_all_fit i room 0 (cart_count i) h in many_labels_free x.0 (omega (arith, x.2)) x.3)
         where
           few : all_fits ≡ true → (c : ℕ) → c < cart_count i → Fits i room c []
-          few h c known = elim (cases_lt room.labels (label_count i c [])) [ inl more ↦ absurd (all_fit-few i room 0 (cart_count i) h (c, omega arith, omega arith, more)) | inr fits ↦ fits ]
+          few h c known = elim (cases_lt room.labels (label_count i c [])) [ inl more ↦ absurd (all_fit_few i room 0 (cart_count i) h (c, omega arith, omega arith, more)) | inr fits ↦ fits ]
 
       rule_seek_root : (t : Turned C) → AtRoots i room q t → seek_root i room q ≡ t
       rule_seek_root t (many_labels_free c known exceeds) =
-          elim (cases_Bool all_fits) [ inl h ↦ absurd (all_fit-few i room 0 (cart_count i) h (c, omega arith, omega arith, exceeds)) | inr h ↦ cond-false all_fits _ _ h ]
+          elim (cases_Bool all_fits) [ inl h ↦ absurd (all_fit_few i room 0 (cart_count i) h (c, omega arith, omega arith, exceeds)) | inr h ↦ cond-false all_fits _ _ h ]
       rule_seek_root t (moves_on r fits next) =
           elim (cases_Bool all_fits) [
             | inl h ↦ cond-true all_fits _ _ h ∙ ap (went 0) (one_next_root i (next_root_is i q bare) next)

@@ -26,8 +26,8 @@ first_byte bs b some e = drop_more bs 0 0 some ∙ ap (λ x. x ∷ drop 1 bs) e 
 pub tail_same : (a b : ℕ) (xs ys : List ℕ) → a ∷ xs ≡ b ∷ ys → xs ≡ ys
 tail_same a b xs ys e = cc
 
-decimal-without : (n : ℕ) → n ≤ 65535 → AllByRecursion (λ x. x ≡ 32 → ⊥) (decimal n)
-decimal-without n h = All-weaker (λ x. 48 ≤ x) (λ x. x ≡ 32 → ⊥) (λ x k e. omega arith) (decimal n) (from_zero n (omega arith))
+decimal_without : (n : ℕ) → n ≤ 65535 → AllByRecursion (λ x. x ≡ 32 → ⊥) (decimal n)
+decimal_without n h = All-weaker (λ x. 48 ≤ x) (λ x. x ≡ 32 → ⊥) (λ x k e. omega arith) (decimal n) (from_zero n (omega arith))
 
 -- what stands before the first c can be read off
 pub until : (c : ℕ) (xs ys r s : List ℕ) → AllByRecursion (λ x. x ≡ c → ⊥) xs → AllByRecursion (λ x. x ≡ c → ⊥) ys → xs ++ (c ∷ r) ≡ ys ++ (c ∷ s) → xs ≡ ys
@@ -45,7 +45,7 @@ not_without c (x ∷ xs) ys h = not_without c xs ys h.1
 -- where the bytes up to the next space are no number, no number stands there
 pub no_next_number : (bs digits more : List ℕ) → bs ≡ digits ++ (32 ∷ more) → Without 32 digits → ((n : ℕ) → n ≤ 65535 → digits ≡ decimal n → ⊥) → (n : ℕ) (rest : List ℕ) → n ≤ 65535 → bs ≡ decimal n ++ (32 ∷ rest) → ⊥
 no_next_number bs digits more e w none n rest small f =
-    none n small (until 32 digits (decimal n) more rest w (decimal-without n small) (sym e ∙ f))
+    none n small (until 32 digits (decimal n) more rest w (decimal_without n small) (sym e ∙ f))
 
 -- the numbers after the first that was read are what is left
 pub rest_is : (bs rest : List ℕ) (n : ℕ) → n ≤ 65535 → bs ≡ 32 ∷ (decimal n ++ rest) → (more : List ℕ) × (rest ≡ 32 ∷ more) → (m l : ℕ) (ls : List ℕ) → m ≤ 65535 → bs ≡ numbers_text (m ∷ (l ∷ ls)) → rest ≡ numbers_text (l ∷ ls)

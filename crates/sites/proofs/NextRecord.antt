@@ -62,17 +62,17 @@ enough : (rows used wanted : ℕ) (others : Option SiteFault) → used + wanted 
 enough rows used wanted others h = cond-false (ltb rows (used + wanted)) _ _ (le-ltb rows (used + wanted) h)
 
 -- no rank is above 5
-rank-few : (r : Record) → rank r ≤ 5
-rank-few (Horizon h) = omega arith
-rank-few (Places p) = omega arith
-rank-few (Lane l) = omega arith
-rank-few (BothLanes l) = omega arith
-rank-few (Tariff t w) = omega arith
-rank-few (Cart s g) = omega arith
+rank_few : (r : Record) → rank r ≤ 5
+rank_few (Horizon h) = omega arith
+rank_few (Places p) = omega arith
+rank_few (Lane l) = omega arith
+rank_few (BothLanes l) = omega arith
+rank_few (Tariff t w) = omega arith
+rank_few (Cart s g) = omega arith
 
 last_few : (rs : List Record) → last_rank rs ≤ 5
 last_few [] = omega arith
-last_few (r ∷ []) = rank-few r
+last_few (r ∷ []) = rank_few r
 last_few (r ∷ (s ∷ rs)) = last_few (s ∷ rs)
 
 module _ (rooms : Rooms) (before : List Record) (was : Reading) (k : Keeps before was) where

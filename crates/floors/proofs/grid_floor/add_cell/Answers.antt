@@ -5,7 +5,7 @@ use Rattle.std.proofs.lemmas.Bool.{cond-false, cond-true, eq-eqb, ne_eqb}
 use Rattle.floors.specs.declared.side.Side.TheVariants.{Above}
 use Rattle.floors.specs.Grids.{entering, side_moves, sides}
 use Rattle.floors.specs.MoveTables.{extended, table_moves}
-use Rattle.floors.proofs.Cells.{entering-few, extended_none, side_more, side_room}
+use Rattle.floors.proofs.Cells.{entering_few, extended_none, side_more, side_room}
 use Rattle.floors.specs.Tables.{table_bounds}
 use Rattle.floors.proofs.grid_floor.add_cell.Goals as goal
 
@@ -38,7 +38,7 @@ enter-requires c =
     let len : length (table_moves c.loop-side.table) ≡ c.args.width * c.args.height =
     ap length c.loop-side.invariant ∙ length-set (table_moves c.args.table.now) c.args.place _ ∙ c.requires.places in
     let room = side_room moves (table_moves c.args.table.now) c.args.place c.loop-side.side-index here c.loop-side-test.true
-    (λ side. entering-few c.args.cells.now _) c.requires.room in
+    (λ side. entering_few c.args.cells.now _) c.requires.room in
     record {
       from = omega (arith, c.requires.place);
       to = subst (λ n. IfSome c.of.result (λ p. p < n)) (sym len) c.of.ensures.inside;

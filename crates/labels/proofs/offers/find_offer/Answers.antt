@@ -4,7 +4,7 @@ use Rattle.std.proofs.lemmas.Option.{slice_get_past}
 use Rattle.rules.specs.Fronts.{front_of}
 use Rattle.labels.specs.Landings.{landed}
 use Rattle.labels.specs.Rows.{shown}
-use Rattle.labels.proofs.Offering.{offer_here, offer_more, offers-over}
+use Rattle.labels.proofs.Offering.{offer_here, offer_more, offers_over}
 use Rattle.labels.proofs.offers.find_offer.Goals as goal
 
 pub returns-then-n-number : goal.returns-then-n-number
@@ -37,5 +37,5 @@ returns g c =
     let k = g.C.CostKind.kind in
     let ls = shown (take c.args.end c.args.rows.now) in
     let xs = landed c.args.starts.now c.args.landing ls in
-    let over = offers-over k g.met.C.CostKind.laws c.args.landing ls xs c.loop-offer.last c.loop-offer.n c.loop-offer.invariant.0 c.loop-offer.invariant.1 c.in_default.ensures.chosen in
+    let over = offers_over k g.met.C.CostKind.laws c.args.landing ls xs c.loop-offer.last c.loop-offer.n c.loop-offer.invariant.0 c.loop-offer.invariant.1 c.in_default.ensures.chosen in
     record { found = sym (slice_get_past (front_of k xs) c.args.number (omega (arith, over, c.loop-offer.invariant.2))); timely = tt }

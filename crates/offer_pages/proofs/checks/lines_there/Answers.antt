@@ -3,13 +3,13 @@ use Rattle.std.specs.List.{AllByRecursion}
 use Rattle.std.proofs.ByRecursion.{All-more}
 use Rattle.std.proofs.lemmas.Bool.{false≢true}
 use Rattle.rules.specs.Instances.{Move}
-use Rattle.offer_pages.proofs.Checking.{decides_yes, decides_no, all_reached, fails-at}
+use Rattle.offer_pages.proofs.Checking.{decides_yes, decides_no, all_reached, fails_at}
 use Rattle.offer_pages.proofs.checks.lines_there.Goals as goal
 
 pub returns-then-not-pays_below : goal.returns-then-not-pays_below
 returns-then-not-pays_below g c =
     let lines = length c.args.site.now.tariff.now in
-    decides_no (λ l. fails-at (AllByRecursion (λ (m : Move). m.line < lines)) (g.F.Floor.moves c.args.site.now.floor.now) c.loop-place.place []
+    decides_no (λ l. fails_at (AllByRecursion (λ (m : Move). m.line < lines)) (g.F.Floor.moves c.args.site.now.floor.now) c.loop-place.place []
     (omega (arith, c.places-place-end.ensures, c.loop-place-test.true)) (λ p. false≢true (c.if-not-pays_below.ensures.1 p)) l.inside)
 
 pub loop-place-preserved : goal.loop-place-preserved

@@ -7,7 +7,7 @@ use Rattle.rules.specs.Instances.{cart_count}
 use Rattle.rules.specs.Offers.{offers, label_count}
 use Rattle.offer_pages.specs.Texts.{cart_text}
 use Rattle.offer_pages.specs.Views.{meant}
-use Rattle.offer_pages.proofs.Adding.{cart_grows, page-stopped}
+use Rattle.offer_pages.proofs.Adding.{cart_grows, page_stopped}
 use Rattle.offer_pages.proofs.Instances.{sound, all_right}
 use Rattle.offer_pages.proofs.page.write_page.Goals as goal
 
@@ -26,7 +26,7 @@ returns-in_err-push_cart g c =
     let i = meant g.F.Floor.moves g.C.CostKind.kind c.args.site.now in
     let p = err_from_is_err_and c.from_residual.result c.from_residual.ensures.1 in
     rw (p.1, p.2)
-    (page-stopped g.C.Text.text i c.loop-cart.cart (vec_items c.loop-cart.out) (vec_items c.push_cart.new.out) c.in_err-push_cart.field-0.0
+    (page_stopped g.C.Text.text i c.loop-cart.cart (vec_items c.loop-cart.out) (vec_items c.push_cart.new.out) c.in_err-push_cart.field-0.0
     (omega (arith, c.loop-cart-test.true, length-map c.args.site.now.carts.now cart_of)) c.requires.ready.checked c.in_err-push_cart.ensures)
 
 pub loop-cart-preserved : goal.loop-cart-preserved

@@ -10,8 +10,8 @@ use Rattle.prices.specs.Saying.{counted}
 use Rattle.prices.proofs.making.make_page.Goals as goal
 
 -- a page of the same rows and the same number
-same-page : {C : Type 0} (text : C → List ℕ) (out : List ℕ) (lent rows : List (Row C)) (read n : ℕ) → out ≡ page text (costs_of (entries lent)) read → lent ≡ rows → read ≡ n → out ≡ page text (costs_of (entries rows)) n
-same-page text out lent rows read n e rs ns = e ∙ ap (λ r. page text (costs_of (entries r)) read) rs ∙ ap (page text (costs_of (entries rows))) ns
+same_page : {C : Type 0} (text : C → List ℕ) (out : List ℕ) (lent rows : List (Row C)) (read n : ℕ) → out ≡ page text (costs_of (entries lent)) read → lent ≡ rows → read ≡ n → out ≡ page text (costs_of (entries rows)) n
+same_page text out lent rows read n e rs ns = e ∙ ap (λ r. page text (costs_of (entries r)) read) rs ∙ ap (page text (costs_of (entries rows))) ns
 
 pub returns : goal.returns
 returns g c =
@@ -24,5 +24,5 @@ returns g c =
       says = c.in_ok-given.ensures;
       kept = costs_in front;
       front = subst P c.as_slice.ensures.value c.in_ok-front.ensures;
-      prints = same-page g.C.Text.text _ c.as_slice-2.result.now front.items c.len.result (length (costs_in given)) c.in_ok-page.ensures c.as_slice-2.ensures.value (c.len.ensures ∙ counted given);
+      prints = same_page g.C.Text.text _ c.as_slice-2.result.now front.items c.len.result (length (costs_in given)) c.in_ok-page.ensures c.as_slice-2.ensures.value (c.len.ensures ∙ counted given);
     }

@@ -11,15 +11,15 @@ filled t was after None w e = absurd (omega (arith, w.0))
 filled t was after (Some n) w e = w.2 ∙ ap (λ d. t ++ d) (drop_all (length t) was (omega arith)) ∙ append-nil t
 
 -- the text that was written, and a newline, stand at the end
-line-pushed : (t lent after shown start mid end : List ℕ) (r : Option ℕ) (text : Vec ℕ Global) (len : ℕ) → len ≡ length t → vec_len text ≡ len → length lent ≡ vec_len text → Wrote t lent after r → shown ≡ vec_items (with_items text after) → mid ≡ start ++ shown → end ≡ mid ++ (10 ∷ []) → end ≡ start ++ (t ++ (10 ∷ []))
-line-pushed t lent after shown start mid end r text len l m n w s e f =
+line_pushed : (t lent after shown start mid end : List ℕ) (r : Option ℕ) (text : Vec ℕ Global) (len : ℕ) → len ≡ length t → vec_len text ≡ len → length lent ≡ vec_len text → Wrote t lent after r → shown ≡ vec_items (with_items text after) → mid ≡ start ++ shown → end ≡ mid ++ (10 ∷ []) → end ≡ start ++ (t ++ (10 ∷ []))
+line_pushed t lent after shown start mid end r text len l m n w s e f =
     let wrote = filled t lent after r w (n ∙ m ∙ l) in
     let is : shown ≡ t = s ∙ with_items_is text after (ap length wrote ∙ sym (m ∙ l)) ∙ wrote in
     f ∙ ap (λ b. b ++ (10 ∷ [])) (e ∙ ap (λ b. start ++ b) is) ∙ append_assoc start t (10 ∷ [])
 
 pub returns : goal.returns
 returns g c =
-    line-pushed (g.C.Text.text c.args.cost) c.as_mut_slice.result.now c.write_text.new.out c.as_slice.result.now
+    line_pushed (g.C.Text.text c.args.cost) c.as_mut_slice.result.now c.write_text.new.out c.as_slice.result.now
     (vec_items c.args.out.now) (vec_items c.extend_from_slice.new.self) (vec_items c.push.new.self) c.write_text.result c.in_ok-text.text c.in-Some.len
     c.in-Some.ensures.0 c.in_ok-text.ensures.len c.as_mut_slice.ensures.len c.write_text.ensures c.as_slice.ensures.value
     c.in_ok-extend_from_slice.ensures.items c.in_ok-push.ensures.items

@@ -19,8 +19,8 @@ module _ {C : Type 0} (text : C → List ℕ) (rows : List (Row C)) (i : ℕ) wh
       ap (λ rs. said text (costs_of (entries rs))) (sym (take_more rows i d h))
 
   -- every row is written, and then the last line
-  rows-done : (read : ℕ) (was last after : List ℕ) → length rows ≤ i → was ≡ said text (costs_of (entries (take i rows))) → last ≡ tally_text (length rows) read → after ≡ was ++ last → after ≡ page text (costs_of (entries rows)) read
-  rows-done read was last after h e l f =
+  rows_done : (read : ℕ) (was last after : List ℕ) → length rows ≤ i → was ≡ said text (costs_of (entries (take i rows))) → last ≡ tally_text (length rows) read → after ≡ was ++ last → after ≡ page text (costs_of (entries rows)) read
+  rows_done read was last after h e l f =
       let count : length rows ≡ length (costs_of (entries rows)) = sym (length-map (entries rows) (λ e. e.cost) ∙ length-map rows entry_of) in
       f ∙ ap (λ bs. bs ++ last) (e ∙ ap (λ rs. said text (costs_of (entries rs))) (take_all i rows h)) ∙
       ap (λ bs. said text (costs_of (entries rows)) ++ bs) (l ∙ ap (λ n. tally_text n read) count)
@@ -35,5 +35,5 @@ loop-i-preserved g c =
 
 pub returns : goal.returns
 returns g c =
-    rows-done g.C.Text.text c.args.rows.now c.loop-i.i c.args.read (vec_items c.loop-i.out) c.as_bytes.result.now (vec_items c.extend_from_slice.new.self)
+    rows_done g.C.Text.text c.args.rows.now c.loop-i.i c.args.read (vec_items c.loop-i.out) c.as_bytes.result.now (vec_items c.extend_from_slice.new.self)
     c.loop-i-test.false c.loop-i.invariant (c.as_bytes.ensures.value ∙ c.in_ok-last.ensures) c.in_ok-extend_from_slice.ensures.items
