@@ -1,60 +1,51 @@
 -- Drafts: which horizons and carts they take, and why they refuse the others.
 -- Assumes nothing.
-use mathlib.Core.Path.{_≡_}
-use mathlib.Core.Bool.{Bool, false, cond, _||_}
-use mathlib.Core.List.{List, [], _∷_}
-use Prim.Native.Nat.{ℕ, _+_}
-use lib.Dec.{eqb, leb, ltb}
-use lib.ListN.{length, take, set}
-use Rattle·std.specs.declared.option.Option.{Option}
-use Rattle·std.specs.declared.option.Option.the-variants.{Some, None}
-use Rattle·std.specs.declared.result.Result.{Result}
-use Rattle·std.specs.declared.result.Result.the-variants.{Ok, Err}
-use Rattle·carts·specs.declared.cart.Cart.{Cart}
-use Rattle·carts·specs.declared.draft.Draft.{Draft}
-use Rattle·carts·specs.declared.draft_refusal.DraftRefusal.{DraftRefusal}
-use Rattle·carts·specs.declared.draft_refusal.DraftRefusal.the-variants.{BadHorizon, NoRow, NoPlace, StartTaken, GoalTaken}
+use Rattle.std.specs.Prelude.{◌≡◌, ℕ, ◌+◌, Bool, false, cond, ◌||◌, List, [], ◌∷◌, length, take, set, Some, None, Ok, Err, Option, Result, ◌==◌, nat_le, nat_lt}
+use Rattle.carts.specs.declared.cart.Cart.{Cart}
+use Rattle.carts.specs.declared.draft.Draft.{Draft}
+use Rattle.carts.specs.declared.draft_refusal.DraftRefusal.{DraftRefusal}
+use Rattle.carts.specs.declared.draft_refusal.DraftRefusal.TheVariants.{BadHorizon, NoRow, NoPlace, StartTaken, GoalTaken}
 
-abbrev pub draft-refusal-number : DraftRefusal → ℕ
-draft-refusal-number BadHorizon = 1
-draft-refusal-number NoRow = 2
-draft-refusal-number NoPlace = 3
-draft-refusal-number StartTaken = 4
-draft-refusal-number GoalTaken = 5
+abbrev pub draft_refusal_number : DraftRefusal → ℕ
+draft_refusal_number BadHorizon = 1
+draft_refusal_number NoRow = 2
+draft_refusal_number NoPlace = 3
+draft_refusal_number StartTaken = 4
+draft_refusal_number GoalTaken = 5
 
 -- why a draft with this horizon is not started
-abbrev pub horizon-refusal : ℕ → Option DraftRefusal
-horizon-refusal h = cond (ltb h 1 || ltb 64 h) (Some BadHorizon) None
+abbrev pub horizon_refusal : ℕ → Option DraftRefusal
+horizon_refusal h = cond (nat_lt h 1 || nat_lt 64 h) (Some BadHorizon) None
 
 abbrev pub Started : ℕ → Result Draft DraftRefusal → Type 0
-Started h (Ok d) = (horizon-refusal h ≡ None) × (d .horizon ≡ h) × (d .carts ≡ 0)
-Started h (Err e) = horizon-refusal h ≡ Some e
+Started h (Ok d) = (horizon_refusal h ≡ None) × (d.horizon ≡ h) × (d.carts ≡ 0)
+Started h (Err e) = horizon_refusal h ≡ Some e
 
 -- some cart has this place, as its start or as its goal
 abbrev pub among : (Cart → ℕ) → ℕ → List Cart → Bool
 among end place [] = false
-among end place (c ∷ cs) = eqb (end c) place || among end place cs
+among end place (c ∷ cs) = end c == place || among end place cs
 
-abbrev pub start-among : ℕ → List Cart → Bool
-start-among = among (λ c. c .start)
+abbrev pub start_among : ℕ → List Cart → Bool
+start_among = among (λ c. c.start)
 
-abbrev pub goal-among : ℕ → List Cart → Bool
-goal-among = among (λ c. c .goal)
+abbrev pub goal_among : ℕ → List Cart → Bool
+goal_among = among (λ c. c.goal)
 
 -- why a cart is not entered after others in a table of so many rows: the first check that fails
-abbrev pub cart-refusal : List Cart → ℕ → ℕ → ℕ → Option DraftRefusal
-cart-refusal entered rows start goal =
-    cond (leb 6 (length entered) || leb rows (length entered)) (Some NoRow)
-    (cond (ltb 127 start || ltb 127 goal) (Some NoPlace)
-    (cond (start-among start entered) (Some StartTaken)
-    (cond (goal-among goal entered) (Some GoalTaken) None)))
+abbrev pub cart_refusal : List Cart → ℕ → ℕ → ℕ → Option DraftRefusal
+cart_refusal entered rows start goal =
+    cond (nat_le 6 (length entered) || nat_le rows (length entered)) (Some NoRow)
+    (cond (nat_lt 127 start || nat_lt 127 goal) (Some NoPlace)
+    (cond (start_among start entered) (Some StartTaken)
+    (cond (goal_among goal entered) (Some GoalTaken) None)))
 
 -- a cart was entered in its row and no other; or the draft came back, with all rows as they were
 abbrev pub Entered : Draft → List Cart → ℕ → ℕ → List Cart → Result Draft (Draft × DraftRefusal) → Type 0
 Entered d rows start goal after (Ok e) =
-    (cart-refusal (take (d .carts) rows) (length rows) start goal ≡ None)
-    × (e .horizon ≡ d .horizon)
-    × (e .carts ≡ d .carts + 1)
-    × (after ≡ set rows (d .carts) (record { start = start; goal = goal }))
+    (cart_refusal (take d.carts rows) (length rows) start goal ≡ None)
+    × (e.horizon ≡ d.horizon)
+    × (e.carts ≡ d.carts + 1)
+    × (after ≡ set rows d.carts (record { start = start; goal = goal }))
 Entered d rows start goal after (Err e) =
-    (cart-refusal (take (d .carts) rows) (length rows) start goal ≡ Some (e .1)) × (e .0 ≡ d) × (after ≡ rows)
+    (cart_refusal (take d.carts rows) (length rows) start goal ≡ Some e.1) × (e.0 ≡ d) × (after ≡ rows)

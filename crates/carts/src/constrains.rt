@@ -1,6 +1,7 @@
-ghost use mathlib.Core.Path.{_≡_};
-ghost use Rattle·rules.specs.Walks.{Constraint as Rule};
-ghost use Rattle·carts·specs.Carts.{constraint-of};
+ghost use Rattle.std.specs.Prelude.{◌≡◌};
+ghost use Rattle.rules.specs.Walks.{Constraint as Rule};
+ghost use Rattle.carts.specs.Carts.{constraint_of};
+
 use crate::constraint::Constraint;
 
 // What puts one constraint on a cart.
@@ -8,11 +9,11 @@ pub trait Constrains {
     ghost constraint: { Self → Rule };
 
     fn constraint(&self) -> Constraint
-        ensures { λ r. ⌜ constraint-of r ≡ constraint (now (self .entry)) ⌝ };
+        ensures { constraint_of result ≡ constraint self.now };
 }
 
-pub impl Constrains for Constraint as ByItself {
-    ghost constraint = { constraint-of };
+impl Constrains for Constraint {
+    ghost constraint = { constraint_of };
 
     fn constraint(&self) -> Constraint {
         *self

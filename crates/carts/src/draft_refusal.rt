@@ -1,5 +1,5 @@
-ghost use mathlib.Core.Path.{_≡_};
-ghost use Rattle·carts·specs.Drafts.{draft-refusal-number};
+ghost use Rattle.std.specs.Prelude.{◌≡◌};
+ghost use Rattle.carts.specs.Drafts.{draft_refusal_number};
 
 // Why a draft is not started, or a cart is not entered.
 #[derive(Clone, Copy, PartialEq, Eq, Debug)]
@@ -18,7 +18,7 @@ pub enum DraftRefusal {
 
 impl DraftRefusal {
     pub fn number(self) -> u16
-        ensures { λ r. ⌜ r ≡ draft-refusal-number self ⌝ }
+        ensures { result ≡ draft_refusal_number self }
     {
         match self {
             DraftRefusal::BadHorizon => 1,

@@ -1,3 +1,5 @@
+#![tactic(auto)]
+
 pub mod cart;
 mod constrains;
 mod constraint;
@@ -5,7 +7,6 @@ pub mod draft;
 pub mod draft_refusal;
 
 pub use cart::Cart;
-pub use constrains::ByItself;
 pub use constrains::Constrains;
 pub use constraint::Constraint;
 pub use draft::Draft;

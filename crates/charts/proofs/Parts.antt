@@ -1,100 +1,95 @@
 -- Lists in parts: what is joined, how long it is, and where each part stands.
 -- Assumes nothing.
-use mathlib.Core.Path.{_≡_, refl, sym, ap, subst, _∙_}
-use mathlib.Core.List.{List, [], _∷_, _++_}
-use mathlib.Core.Logic.{inl, inr}
-use Prim.Native.Nat.{ℕ, _+_, _-_, _<_, _≤_}
-use native.Mathlib.Omega.{arith}
-use lib.ListN.{length, take, drop, getD, set}
-use Rattle·std.specs.shelf.Lists.{All}
-use Rattle·std.proofs.shelf.Elements.{all-getD}
-use Rattle·std.proofs.shelf.Tests.{cases-eq}
-use Rattle·std.proofs.shelf.Lists.{append-nil, append-assoc, take-append-drop, take-more, take-all, take-at, length-append, length-push, drop-at, take-append-le, getD-set-same, getD-set-other, length-take-le, length-drop, getD-drop, getD-take}
-use Rattle·rules.specs.Offers.{joined-lists, total-length}
-use Rattle·charts·specs.Parts.{Marked, Part}
+use Rattle.std.proofs.Common.{◌≡◌, ℕ, ◌+◌, ◌-◌, ◌<◌, ◌≤◌, List, [], ◌∷◌, ◌++◌, length, get_or, take, drop, set, sym, refl, ap, ◌∙◌, subst, inl, inr, arith}
+use Rattle.std.specs.List.{AllByRecursion}
+use Rattle.std.proofs.ByRecursion.{All-get_or}
+use Rattle.std.proofs.lemmas.Bool.{cases_eq}
+use Rattle.std.proofs.lemmas.List.{append-nil, append_assoc, take-append-drop, take_more, take_all, take_at, length-append, length_push, drop_at, take-append-le, get_or-set_same, get_or-set_other, length-take-le, length-drop, get_or-drop, get_or-take}
+use Rattle.rules.specs.Offers.{joined_lists, total_length}
+use Rattle.charts.specs.Parts.{Marked, Part}
 
 module _ {X : Type 0} where
-  pub joined-append : (xs ys : List (List X)) → joined-lists (xs ++ ys) ≡ joined-lists xs ++ joined-lists ys
-  joined-append [] ys = refl
-  joined-append (x ∷ xs) ys = ap (λ l. x ++ l) (joined-append xs ys) ∙ sym (append-assoc x (joined-lists xs) (joined-lists ys))
+  pub joined_append : (xs ys : List (List X)) → joined_lists (xs ++ ys) ≡ joined_lists xs ++ joined_lists ys
+  joined_append [] ys = refl
+  joined_append (x ∷ xs) ys = ap (λ l. x ++ l) (joined_append xs ys) ∙ sym (append_assoc x (joined_lists xs) (joined_lists ys))
 
-  pub joined-push : (xs : List (List X)) (x : List X) → joined-lists (xs ++ x ∷ []) ≡ joined-lists xs ++ x
-  joined-push xs x = joined-append xs (x ∷ []) ∙ ap (λ l. joined-lists xs ++ l) (append-nil x)
+  pub joined_push : (xs : List (List X)) (x : List X) → joined_lists (xs ++ x ∷ []) ≡ joined_lists xs ++ x
+  joined_push xs x = joined_append xs (x ∷ []) ∙ ap (λ l. joined_lists xs ++ l) (append-nil x)
 
-  pub total-append : (xs ys : List (List X)) → total-length (xs ++ ys) ≡ total-length xs + total-length ys
-  total-append [] ys = omega arith
-  total-append (x ∷ xs) ys = omega (arith, total-append xs ys)
+  pub total_append : (xs ys : List (List X)) → total_length (xs ++ ys) ≡ total_length xs + total_length ys
+  total_append [] ys = omega arith
+  total_append (x ∷ xs) ys = omega (arith, total_append xs ys)
 
-  pub length-joined : (xs : List (List X)) → length (joined-lists xs) ≡ total-length xs
-  length-joined [] = refl
-  length-joined (x ∷ xs) = length-append x (joined-lists xs) ∙ ap (λ n. length x + n) (length-joined xs)
+  pub length_joined : (xs : List (List X)) → length (joined_lists xs) ≡ total_length xs
+  length_joined [] = refl
+  length_joined (x ∷ xs) = length-append x (joined_lists xs) ∙ ap (λ n. length x + n) (length_joined xs)
 
-  pub total-more : (cells : List (List X)) (c : ℕ) → c < length cells → total-length (take (c + 1) cells) ≡ total-length (take c cells) + length (getD cells c [])
-  total-more cells c lt = ap total-length (take-more cells c [] lt) ∙ total-append (take c cells) (getD cells c [] ∷ []) ∙ omega arith
+  pub total_more : (cells : List (List X)) (c : ℕ) → c < length cells → total_length (take (c + 1) cells) ≡ total_length (take c cells) + length (get_or cells c [])
+  total_more cells c lt = ap total_length (take_more cells c [] lt) ∙ total_append (take c cells) (get_or cells c [] ∷ []) ∙ omega arith
 
-  pub total-part : (cells : List (List X)) (c : ℕ) → total-length (take c cells) ≤ total-length cells
-  total-part cells c = omega (arith, ap total-length (take-append-drop c cells), total-append (take c cells) (drop c cells))
+  pub total_part : (cells : List (List X)) (c : ℕ) → total_length (take c cells) ≤ total_length cells
+  total_part cells c = omega (arith, ap total_length (take-append-drop c cells), total_append (take c cells) (drop c cells))
 
-  part-of : (cells : List (List X)) (c : ℕ) → c < length cells → drop (total-length (take c cells)) (take (total-length (take (c + 1) cells)) (joined-lists cells)) ≡ getD cells c []
-  part-of cells c lt =
-      let whole : joined-lists cells ≡ joined-lists (take (c + 1) cells) ++ joined-lists (drop (c + 1) cells) = ap joined-lists (sym (take-append-drop (c + 1) cells)) ∙ joined-append (take (c + 1) cells) (drop (c + 1) cells) in
-      let front : joined-lists (take (c + 1) cells) ≡ joined-lists (take c cells) ++ getD cells c [] = ap joined-lists (take-more cells c [] lt) ∙ joined-push (take c cells) (getD cells c []) in
-      ap (λ l. drop (total-length (take c cells)) (take (total-length (take (c + 1) cells)) l)) whole
-      ∙ ap (drop (total-length (take c cells))) (take-at (joined-lists (take (c + 1) cells)) (joined-lists (drop (c + 1) cells)) (total-length (take (c + 1) cells)) (length-joined (take (c + 1) cells)))
-      ∙ ap (drop (total-length (take c cells))) front
-      ∙ drop-at (joined-lists (take c cells)) (getD cells c []) (total-length (take c cells)) (length-joined (take c cells))
+  part_of : (cells : List (List X)) (c : ℕ) → c < length cells → drop (total_length (take c cells)) (take (total_length (take (c + 1) cells)) (joined_lists cells)) ≡ get_or cells c []
+  part_of cells c lt =
+      let whole : joined_lists cells ≡ joined_lists (take (c + 1) cells) ++ joined_lists (drop (c + 1) cells) = ap joined_lists (sym (take-append-drop (c + 1) cells)) ∙ joined_append (take (c + 1) cells) (drop (c + 1) cells) in
+      let front : joined_lists (take (c + 1) cells) ≡ joined_lists (take c cells) ++ get_or cells c [] = ap joined_lists (take_more cells c [] lt) ∙ joined_push (take c cells) (get_or cells c []) in
+      ap (λ l. drop (total_length (take c cells)) (take (total_length (take (c + 1) cells)) l)) whole
+      ∙ ap (drop (total_length (take c cells))) (take_at (joined_lists (take (c + 1) cells)) (joined_lists (drop (c + 1) cells)) (total_length (take (c + 1) cells)) (length_joined (take (c + 1) cells)))
+      ∙ ap (drop (total_length (take c cells))) front
+      ∙ drop_at (joined_lists (take c cells)) (get_or cells c []) (total_length (take c cells)) (length_joined (take c cells))
 
-  pub marked-none : (begins : List ℕ) → getD begins 0 0 ≡ 0 → Marked {X = X} begins []
-  marked-none begins e = record { at = λ c le. let z : c ≡ 0 = omega arith in ap (λ x. getD begins x 0) z ∙ e ∙ ap (λ x. total-length (take {A = List X} x [])) (sym z) }
+  pub marked_none : (begins : List ℕ) → get_or begins 0 0 ≡ 0 → Marked {X = X} begins []
+  marked_none begins e = record { at = λ c le. let z : c ≡ 0 = omega arith in ap (λ x. get_or begins x 0) z ∙ e ∙ ap (λ x. total_length (take {A = List X} x [])) (sym z) }
 
-  pub marked-more : (begins : List ℕ) (cells : List (List X)) (cell : List X) (m n : ℕ) → Marked begins cells → m ≡ length cells + 1 → m < length begins → n ≡ total-length (cells ++ cell ∷ []) → Marked (set begins m n) (cells ++ cell ∷ [])
-  marked-more begins cells cell m n marks e lt size = record {
+  pub marked_more : (begins : List ℕ) (cells : List (List X)) (cell : List X) (m n : ℕ) → Marked begins cells → m ≡ length cells + 1 → m < length begins → n ≡ total_length (cells ++ cell ∷ []) → Marked (set begins m n) (cells ++ cell ∷ [])
+  marked_more begins cells cell m n marks e lt size = record {
     at = λ c le.
-        elim (cases-eq c m) [
+        elim (cases_eq c m) [
           | inl same ↦
-              ap (λ x. getD (set begins m n) x 0) same
-              ∙ getD-set-same begins m n 0 lt
+              ap (λ x. get_or (set begins m n) x 0) same
+              ∙ get_or-set_same begins m n 0 lt
               ∙ size
-              ∙ ap total-length (sym (take-all c (cells ++ cell ∷ []) (omega (arith, length-push cells cell))))
+              ∙ ap total_length (sym (take_all c (cells ++ cell ∷ []) (omega (arith, length_push cells cell))))
           | inr ne ↦
-              let old : c ≤ length cells = omega (arith, length-push cells cell) in
-              getD-set-other begins m c n 0 ne
-              ∙ marks .at c old
-              ∙ ap total-length (sym (take-append-le c cells (cell ∷ []) old))
+              let old : c ≤ length cells = omega (arith, length_push cells cell) in
+              get_or-set_other begins m c n 0 ne
+              ∙ marks.at c old
+              ∙ ap total_length (sym (take-append-le c cells (cell ∷ []) old))
         ];
   }
 
   -- a part stays where it is when the list grows
-  pub part-more : (begins : List ℕ) (xs more : List X) (n : ℕ) (part : List X) → Part begins xs n part → Part begins (xs ++ more) n part
-  part-more begins xs more n part h = record {
-    up = h .up;
-    within = omega (arith, h .within, length-append xs more);
-    same = ap (drop (getD begins n 0)) (take-append-le (getD begins (n + 1) 0) xs more (h .within)) ∙ h .same;
+  pub part_more : (begins : List ℕ) (xs more : List X) (n : ℕ) (part : List X) → Part begins xs n part → Part begins (xs ++ more) n part
+  part_more begins xs more n part h = record {
+    up = h.up;
+    within = omega (arith, h.within, length-append xs more);
+    same = ap (drop (get_or begins n 0)) (take-append-le (get_or begins (n + 1) 0) xs more h.within) ∙ h.same;
   }
 
   -- each cell stands where the marks say
-  pub part-at : (begins : List ℕ) (xs : List X) (cells : List (List X)) (more : List X) (c : ℕ) → xs ≡ joined-lists cells ++ more → Marked begins cells → c < length cells → Part begins xs c (getD cells c [])
-  part-at begins xs cells more c whole marks lt =
-      let m = marks .at c (omega arith) in
-      let m′ = marks .at (c + 1) (omega arith) in
-      let fits : total-length (take (c + 1) cells) ≤ length (joined-lists cells) = omega (arith, total-part cells (c + 1), length-joined cells) in
+  pub part_at : (begins : List ℕ) (xs : List X) (cells : List (List X)) (more : List X) (c : ℕ) → xs ≡ joined_lists cells ++ more → Marked begins cells → c < length cells → Part begins xs c (get_or cells c [])
+  part_at begins xs cells more c whole marks lt =
+      let m = marks.at c (omega arith) in
+      let m' = marks.at (c + 1) (omega arith) in
+      let fits : total_length (take (c + 1) cells) ≤ length (joined_lists cells) = omega (arith, total_part cells (c + 1), length_joined cells) in
       record {
-        up = omega (arith, total-more cells c lt);
-        within = omega (arith, ap length whole, length-append (joined-lists cells) more);
+        up = omega (arith, total_more cells c lt);
+        within = omega (arith, ap length whole, length-append (joined_lists cells) more);
         same =
-            ap (λ a. drop a (take (getD begins (c + 1) 0) xs)) m
-            ∙ ap (λ a. drop (total-length (take c cells)) (take a xs)) m′
-            ∙ ap (λ l. drop (total-length (take c cells)) (take (total-length (take (c + 1) cells)) l)) whole
-            ∙ ap (drop (total-length (take c cells))) (take-append-le (total-length (take (c + 1) cells)) (joined-lists cells) more fits)
-            ∙ part-of cells c lt;
+            ap (λ a. drop a (take (get_or begins (c + 1) 0) xs)) m
+            ∙ ap (λ a. drop (total_length (take c cells)) (take a xs)) m'
+            ∙ ap (λ l. drop (total_length (take c cells)) (take (total_length (take (c + 1) cells)) l)) whole
+            ∙ ap (drop (total_length (take c cells))) (take-append-le (total_length (take (c + 1) cells)) (joined_lists cells) more fits)
+            ∙ part_of cells c lt;
       }
 
   -- what each element of a part has, the element at a place of it has
-  pub part-has : (P : X → Type 0) (begins : List ℕ) (xs : List X) (n : ℕ) (part : List X) → Part begins xs n part → All P part → (e : ℕ) (d : X) → getD begins n 0 ≤ e → e < getD begins (n + 1) 0 → P (getD xs e d)
-  part-has P begins xs n part h all e d lo hi =
-      let a = getD begins n 0 in
-      let b = getD begins (n + 1) 0 in
-      let long : length (drop a (take b xs)) ≡ b - a = length-drop a (take b xs) ∙ ap (λ m. m - a) (length-take-le b xs (h .within)) in
+  pub part_has : (P : X → Type 0) (begins : List ℕ) (xs : List X) (n : ℕ) (part : List X) → Part begins xs n part → AllByRecursion P part → (e : ℕ) (d : X) → get_or begins n 0 ≤ e → e < get_or begins (n + 1) 0 → P (get_or xs e d)
+  part_has P begins xs n part h all e d lo hi =
+      let a = get_or begins n 0 in
+      let b = get_or begins (n + 1) 0 in
+      let long : length (drop a (take b xs)) ≡ b - a = length-drop a (take b xs) ∙ ap (λ m. m - a) (length-take-le b xs h.within) in
       let at : a + (e - a) ≡ e = omega arith in
-      let in-part : e - a < length part = omega (arith, long, ap length (h .same)) in
-      subst P (ap (λ l. getD l (e - a) d) (sym (h .same)) ∙ getD-drop a (take b xs) (e - a) d ∙ ap (λ m. getD (take b xs) m d) at ∙ getD-take b xs e d hi) (all-getD P part (e - a) d in-part all)
+      let in_part : e - a < length part = omega (arith, long, ap length h.same) in
+      subst P (ap (λ l. get_or l (e - a) d) (sym h.same) ∙ get_or-drop a (take b xs) (e - a) d ∙ ap (λ m. get_or (take b xs) m d) at ∙ get_or-take b xs e d hi) (All-get_or P part (e - a) d in_part all)

@@ -1,66 +1,61 @@
 -- What is drawn into a chart.
 -- Assumes nothing.
-use mathlib.Core.Path.{_≡_}
-use mathlib.Core.Bool.{Bool, false, _&&_, _||_}
-use mathlib.Core.List.{List}
-use Prim.Native.Nat.{ℕ, _+_, _*_, _<_, _≤_}
-use lib.Dec.{eqb}
-use lib.ListN.{length, getD, replicate}
-use Rattle·rules.specs.Instances.{Move}
-use Rattle·rules.specs.Walks.{Constraint, forbids-place, forbids-move, any-of}
-use Rattle·charts·specs.declared.chart.Chart.{Chart}
-use Rattle·charts·specs.declared.inbound.Inbound.{Inbound}
-use Rattle·charts·specs.declared.ticks.Ticks.{Ticks}
-use Rattle·charts·specs.Indexes.{AllIndexed}
-use Rattle·charts·specs.TickSets.{has, no-ticks}
+use Rattle.std.specs.Prelude.{◌≡◌, ℕ, ◌+◌, ◌*◌, ◌<◌, ◌≤◌, Bool, false, ◌&&◌, ◌||◌, List, length, get_or, replicate, ◌==◌, slice_index, slice_index_or}
+use Rattle.rules.specs.Instances.{Move}
+use Rattle.rules.specs.Walks.{Constraint, forbids_place, forbids_move, any_of}
+use Rattle.charts.specs.declared.chart.Chart.{Chart}
+use Rattle.charts.specs.declared.inbound.Inbound.{Inbound}
+use Rattle.charts.specs.declared.ticks.Ticks.{Ticks}
+use Rattle.charts.specs.Indexes.{AllIndexed}
+use Rattle.charts.specs.TickSets.{has, no_ticks}
 
 -- the cell of place p at tick t is shut as it was, or where f says so
 abbrev pub ShutBy : (places : ℕ) (was after : List Bool) → (ℕ → ℕ → Bool) → Type 0
-ShutBy places was after f = (t p : ℕ) → t ≤ 64 → p < places → getD after (t * places + p) false ≡ (getD was (t * places + p) false || f p t)
+ShutBy places was after f = (t p : ℕ) → t ≤ 64 → p < places → slice_index_or after (t * places + p) false ≡ (slice_index_or was (t * places + p) false || f p t)
 
 -- where move number e leaves from
 abbrev pub leaves : List Inbound → ℕ → ℕ
-leaves moves e = getD moves e (record { from = 0; line = 0 }) .from
+leaves moves e = (get_or moves e (record { from = 0; line = 0 })).from
 
 -- each of the moves that reach place p is closed at tick t as it was, or where g says so of the place that it leaves
 abbrev pub ClosedBy : (begins : List ℕ) (moves : List Inbound) (places : ℕ) (was after : List Ticks) → (ℕ → ℕ → ℕ → Bool) → Type 0
 ClosedBy begins moves places was after g =
-    (p e t : ℕ) → p < places → getD begins p 0 ≤ e → e < getD begins (p + 1) 0 → t ≤ 63 → has (getD after e no-ticks) t ≡ (has (getD was e no-ticks) t || g (leaves moves e) p t)
+    (p e t : ℕ) → p < places → slice_index begins p ≤ e → e < slice_index begins (p + 1) → t ≤ 63 → has (slice_index_or after e no_ticks) t ≡ (has (slice_index_or was e no_ticks) t || g (leaves moves e) p t)
 
 -- from number n on, all is as it was
 abbrev pub SameFrom : {X : Type 0} → X → ℕ → (was after : List X) → Type 0
-SameFrom none n was after = (i : ℕ) → n ≤ i → getD after i none ≡ getD was i none
+SameFrom none n was after = (i : ℕ) → n ≤ i → slice_index_or after i none ≡ slice_index_or was i none
 
 -- the moves from number a to b that leave from a place are closed at one tick more, and all others as they were
 pub record ClosedAlong (moves : List Inbound) (was after : List Ticks) (a b from tick : ℕ) : Type 0 where
-  pub inside : (e t : ℕ) → a ≤ e → e < b → t ≤ 63 → has (getD after e no-ticks) t ≡ (has (getD was e no-ticks) t || (eqb (leaves moves e) from && eqb t tick))
-  pub before : (e : ℕ) → e < a → getD after e no-ticks ≡ getD was e no-ticks
-  pub behind : (e : ℕ) → b ≤ e → getD after e no-ticks ≡ getD was e no-ticks
+  pub inside : (e t : ℕ) → a ≤ e → e < b → t ≤ 63 → has (slice_index_or after e no_ticks) t ≡ (has (slice_index_or was e no_ticks) t || (leaves moves e == from && t == tick))
+  pub before : (e : ℕ) → e < a → slice_index_or after e no_ticks ≡ slice_index_or was e no_ticks
+  pub behind : (e : ℕ) → b ≤ e → slice_index_or after e no_ticks ≡ slice_index_or was e no_ticks
 
 -- the moves of the places stand one after another
 pub record Rising (begins : List ℕ) (moves : List Inbound) (places : ℕ) : Type 0 where
   pub few : places ≤ 128
-  pub begins-long : length begins ≡ 129
-  pub moves-long : length moves ≡ 1024
-  pub up : (p : ℕ) → p < places → getD begins p 0 ≤ getD begins (p + 1) 0
-  pub within : (p : ℕ) → p < places → getD begins (p + 1) 0 ≤ 1024
+  pub begins_long : length begins ≡ 129
+  pub moves_long : length moves ≡ 1024
+  pub up : (p : ℕ) → p < places → slice_index begins p ≤ slice_index begins (p + 1)
+  pub within : (p : ℕ) → p < places → slice_index begins (p + 1) ≤ 1024
 
 -- the tables hold besides what they held what f says of places and g of moves, and nothing else
-pub record Barred (begins : List ℕ) (moves : List Inbound) (places : ℕ) (shut shut′ : List Bool) (closed closed′ : List Ticks) (f : ℕ → ℕ → Bool) (g : ℕ → ℕ → ℕ → Bool) : Type 0 where
-  pub cells : ShutBy places shut shut′ f
-  pub departures : ClosedBy begins moves places closed closed′ g
-  pub other-cells : SameFrom false (65 * places) shut shut′
-  pub other-moves : SameFrom no-ticks (getD begins places 0) closed closed′
+pub record Barred (begins : List ℕ) (moves : List Inbound) (places : ℕ) (shut shut' : List Bool) (closed closed' : List Ticks) (f : ℕ → ℕ → Bool) (g : ℕ → ℕ → ℕ → Bool) : Type 0 where
+  pub cells : ShutBy places shut shut' f
+  pub departures : ClosedBy begins moves places closed closed' g
+  pub other_cells : SameFrom false (65 * places) shut shut'
+  pub other_moves : SameFrom no_ticks (slice_index begins places) closed closed'
 
 -- nothing is shut, and nothing is closed
 pub record Blank (chart : Chart) : Type 0 where
-  pub shut : chart .shut ≡ replicate 8320 false
-  pub closed : (e t : ℕ) → has (getD (chart .closed) e no-ticks) t ≡ false
+  pub shut : chart.shut ≡ replicate 8320 false
+  pub closed : (e t : ℕ) → has (slice_index_or chart.closed e no_ticks) t ≡ false
 
 -- the moves of the floor by the place reached, and besides what was shut and closed before what the constraints forbid the cart
 pub record Drawn (moves : List (List Move)) (constraints : List Constraint) (cart : ℕ) (was after : Chart) : Type 0 where
-  pub indexed : AllIndexed (after .begins) (after .moves) moves
-  pub shut : ShutBy (length moves) (was .shut) (after .shut) (λ p t. any-of (forbids-place cart p t) constraints)
-  pub closed : ClosedBy (after .begins) (after .moves) (length moves) (was .closed) (after .closed) (λ u p t. any-of (forbids-move cart u p t) constraints)
-  pub other-cells : SameFrom false (65 * length moves) (was .shut) (after .shut)
-  pub other-moves : SameFrom no-ticks (getD (after .begins) (length moves) 0) (was .closed) (after .closed)
+  pub indexed : AllIndexed after.begins after.moves moves
+  pub shut : ShutBy (length moves) was.shut after.shut (λ p t. any_of (forbids_place cart p t) constraints)
+  pub closed : ClosedBy after.begins after.moves (length moves) was.closed after.closed (λ u p t. any_of (forbids_move cart u p t) constraints)
+  pub other_cells : SameFrom false (65 * length moves) was.shut after.shut
+  pub other_moves : SameFrom no_ticks (slice_index after.begins (length moves)) was.closed after.closed

@@ -1,5 +1,6 @@
-ghost use mathlib.Core.List.{map};
-ghost use Rattle·charts·specs.Charts.{Drawn};
+ghost use Rattle.std.specs.Prelude.{map};
+ghost use Rattle.charts.specs.Charts.{Drawn};
+
 use crate::chart::Chart;
 use crate::index::fill_index;
 use crate::marks::mark_all;
@@ -8,7 +9,7 @@ use floors::Floor;
 
 // Draws into a chart, in place, the moves of a floor, and what the constraints forbid a cart there; what was shut or closed stays so.
 pub fn draw<F: Floor, B: Constrains>(floor: &F, constraints: &[B], cart: u8, chart: &mut Chart)
-    ensures { λ _. ⌜ Drawn (F·Floor .moves (now (floor .entry))) (map (B·Constrains .constraint) (now (constraints .entry))) cart (now (chart .entry)) (now (chart .exit)) ⌝ }
+    ensures { Drawn (F.Floor.moves floor.now) (map B.Constrains.constraint constraints.now) cart chart.old chart.new }
 {
     fill_index(floor, &mut chart.begins, &mut chart.moves);
     mark_all(

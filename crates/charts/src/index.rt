@@ -1,11 +1,8 @@
-ghost use mathlib.Core.Path.{_≡_};
-ghost use mathlib.Core.List.{List};
-ghost use Prim.Native.Nat.{ℕ, _+_, _*_, _<_, _≤_};
-ghost use lib.ListN.{length, getD};
-ghost use Rattle·charts·specs.declared.inbound.Inbound.{Inbound};
-ghost use Rattle·charts·specs.Indexes.{inbound-of, Appended, AllIndexed, Chain, ChainedFrom};
-use crate::inbound::Inbound;
-use crate::inbound::Link;
+ghost use Rattle.std.specs.Prelude.{◌≡◌, ℕ, ◌+◌, ◌*◌, ◌<◌, ◌≤◌, List, length, slice_index};
+ghost use Rattle.charts.specs.declared.inbound.Inbound.{Inbound};
+ghost use Rattle.charts.specs.Indexes.{inbound_of, Appended, AllIndexed, Chain, ChainedFrom};
+
+use crate::inbound::{Inbound, Link};
 use floors::Floor;
 
 // The moves from `from`, each in front of the chain of its place, once those of the places after it are chained by `n` links.
@@ -16,11 +13,11 @@ fn chain_from<F: Floor>(
     links: &mut [Link],
     n: usize,
 ) -> usize
-    requires inside { ⌜ from < length (F·Floor .moves (now floor)) ⌝ }
-    requires room { ⌜ n + (8 * from + 8) ≤ 1024 ⌝ }
-    requires chained { ⌜ ChainedFrom (F·Floor .moves (now floor)) (from + 1) (now heads) (now links) n ⌝ }
-    ensures room { λ r. ⌜ r + 8 * from ≤ 1024 ⌝ }
-    ensures chained { λ r. ⌜ ChainedFrom (F·Floor .moves (now (floor .entry))) from (now (heads .exit)) (now (links .exit)) r ⌝ }
+    requires inside { from < length (F.Floor.moves floor.now) }
+    requires room { n + (8 * from + 8) ≤ 1024 }
+    requires chained { ChainedFrom (F.Floor.moves floor.now) (from + 1) heads.old links.old n }
+    ensures room { result + 8 * from ≤ 1024 }
+    ensures chained { ChainedFrom (F.Floor.moves floor.now) from heads.new links.new result }
 {
     let mut n = n;
     let mut k = floor.move_count(from);
@@ -45,10 +42,10 @@ fn chain_from<F: Floor>(
 
 // All moves, each in the chain of the place that it reaches.
 fn chain_all<F: Floor>(floor: &F, heads: &mut [u16], links: &mut [Link])
-    requires places { ⌜ length (now heads) ≡ 128 ⌝ }
-    requires few { ⌜ length (now links) ≡ 1024 ⌝ }
-    requires clear { ⌜ ((p : ℕ) → p < 128 → getD (now heads) p 0 ≡ 0) ⌝ }
-    ensures { λ _. ⌜ ((p : ℕ) → p < 128 → Chain (now (links .exit)) (getD (now (heads .exit)) p 0) (inbound-of (F·Floor .moves (now (floor .entry))) p)) ⌝ }
+    requires places { length heads.old ≡ 128 }
+    requires few { length links.old ≡ 1024 }
+    requires clear { (p : ℕ) → p < 128 → slice_index heads.old p ≡ 0 }
+    ensures { (p : ℕ) → p < 128 → Chain links.new (slice_index heads.new p) (inbound_of (F.Floor.moves floor.now) p) }
 {
     let mut n = 0;
     let mut from = floor.places();
@@ -60,9 +57,9 @@ fn chain_all<F: Floor>(floor: &F, heads: &mut [u16], links: &mut [Link])
 
 // The moves of a chain, after the first `n`.
 fn add_chain(links: &[Link], head: u16, moves: &mut [Inbound], n: usize) -> usize
-    requires few { ⌜ length (now links) ≤ 1024 ⌝ }
-    requires chain { ⌜ ((xs : List Inbound) × (Chain (now links) head xs × (n + length xs ≤ length (now moves)))) ⌝ }
-    ensures { λ r. ⌜ ((xs : List Inbound) → Chain (now (links .entry)) head xs → Appended (now (moves .entry)) (now (moves .exit)) n xs r) ⌝ }
+    requires few { length links.now ≤ 1024 }
+    requires chain { (xs : List Inbound) × (Chain links.now head xs × (n + length xs ≤ length moves.old)) }
+    ensures { (xs : List Inbound) → Chain links.now head xs → Appended moves.old moves.new n xs result }
 {
     let mut n = n;
     let mut at = head as usize;
@@ -77,9 +74,9 @@ fn add_chain(links: &[Link], head: u16, moves: &mut [Inbound], n: usize) -> usiz
 
 // The moves of a floor by the place reached; within it in the order of the places left, and then of the moves' numbers.
 pub(crate) fn fill_index<F: Floor>(floor: &F, begins: &mut [u16], moves: &mut [Inbound])
-    requires begins { ⌜ length (now begins) ≡ 129 ⌝ }
-    requires moves { ⌜ length (now moves) ≡ 1024 ⌝ }
-    ensures { λ _. ⌜ AllIndexed (now (begins .exit)) (now (moves .exit)) (F·Floor .moves (now (floor .entry))) ⌝ }
+    requires begins { length begins.old ≡ 129 }
+    requires moves { length moves.old ≡ 1024 }
+    ensures { AllIndexed begins.new moves.new (F.Floor.moves floor.now) }
 {
     let none = Inbound { from: 0, line: 0 };
     let mut heads = [0u16; 128];

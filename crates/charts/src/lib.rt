@@ -1,3 +1,5 @@
+#![tactic(auto)]
+
 mod chart;
 mod drawing;
 mod inbound;

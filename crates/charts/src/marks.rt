@@ -1,23 +1,18 @@
-ghost use mathlib.Core.Path.{_≡_};
-ghost use mathlib.Core.List.{map};
-ghost use mathlib.Core.Bool.{false, _&&_};
-ghost use Prim.Native.Nat.{_*_, _≤_};
-ghost use lib.Dec.{eqb};
-ghost use lib.ListN.{length};
-ghost use Rattle·rules.specs.Walks.{forbids-place, forbids-move, any-of};
-ghost use Rattle·carts.specs.Carts.{constraint-of};
-ghost use Rattle·charts·specs.Charts.{ShutBy, ClosedAlong, Barred, Rising, SameFrom};
+ghost use Rattle.std.specs.Prelude.{◌≡◌, ◌*◌, ◌≤◌, false, ◌&&◌, map, length, ◌==◌};
+ghost use Rattle.rules.specs.Walks.{forbids_place, forbids_move, any_of};
+ghost use Rattle.carts.specs.Carts.{constraint_of};
+ghost use Rattle.charts.specs.Charts.{ShutBy, ClosedAlong, Barred, Rising, SameFrom};
+
 use crate::inbound::Inbound;
 use crate::ticks::Ticks;
-use carts::Constrains;
-use carts::Constraint;
+use carts::{Constrains, Constraint};
 
 // Shuts the cell of a place at a tick, if there is one.
 fn shut_cell(shut: &mut [bool], places: u8, place: u8, tick: u8)
-    requires long { ⌜ length (now shut) ≡ 8320 ⌝ }
-    requires few { ⌜ places ≤ 128 ⌝ }
-    ensures shut { λ _. ⌜ ShutBy places (now (shut .entry)) (now (shut .exit)) (λ p t. eqb p place && eqb t tick) ⌝ }
-    ensures others { λ _. ⌜ SameFrom false (65 * places) (now (shut .entry)) (now (shut .exit)) ⌝ }
+    requires long { length shut.old ≡ 8320 }
+    requires few { places ≤ 128 }
+    ensures shut { ShutBy places shut.old shut.new (λ p t. (p == place) && t == tick) }
+    ensures others { SameFrom false (65 * places) shut.old shut.new }
 {
     if place < places && tick <= 64 {
         shut[tick as usize * places as usize + place as usize] = true;
@@ -33,10 +28,10 @@ fn close_moves(
     from: u8,
     tick: u8,
 )
-    requires up { ⌜ begin ≤ end ⌝ }
-    requires moves { ⌜ end ≤ length (now moves) ⌝ }
-    requires closed { ⌜ end ≤ length (now closed) ⌝ }
-    ensures { λ _. ⌜ ClosedAlong (now (moves .entry)) (now (closed .entry)) (now (closed .exit)) begin end from tick ⌝ }
+    requires up { begin ≤ end }
+    requires moves { end ≤ length moves.now }
+    requires closed { end ≤ length closed.old }
+    ensures { ClosedAlong moves.now closed.old closed.new begin end from tick }
 {
     for e in begin..end {
         if moves[e].from == from {
@@ -55,10 +50,10 @@ fn mark(
     shut: &mut [bool],
     closed: &mut [Ticks],
 )
-    requires index { ⌜ Rising (now begins) (now moves) places ⌝ }
-    requires cells { ⌜ length (now shut) ≡ 8320 ⌝ }
-    requires moves { ⌜ length (now closed) ≡ 1024 ⌝ }
-    ensures { λ _. ⌜ Barred (now (begins .entry)) (now (moves .entry)) places (now (shut .entry)) (now (shut .exit)) (now (closed .entry)) (now (closed .exit)) (λ p t. forbids-place cart p t (constraint-of constraint)) (λ u p t. forbids-move cart u p t (constraint-of constraint)) ⌝ }
+    requires index { Rising begins.now moves.now places }
+    requires cells { length shut.old ≡ 8320 }
+    requires moves { length closed.old ≡ 1024 }
+    ensures { Barred begins.now moves.now places shut.old shut.new closed.old closed.new (λ p t. forbids_place cart p t (constraint_of constraint)) (λ u p t. forbids_move cart u p t (constraint_of constraint)) }
 {
     match constraint {
         Constraint::Vertex {
@@ -95,10 +90,10 @@ pub(crate) fn mark_all<B: Constrains>(
     shut: &mut [bool],
     closed: &mut [Ticks],
 )
-    requires index { ⌜ Rising (now begins) (now moves) places ⌝ }
-    requires cells { ⌜ length (now shut) ≡ 8320 ⌝ }
-    requires moves { ⌜ length (now closed) ≡ 1024 ⌝ }
-    ensures { λ _. ⌜ Barred (now (begins .entry)) (now (moves .entry)) places (now (shut .entry)) (now (shut .exit)) (now (closed .entry)) (now (closed .exit)) (λ p t. any-of (forbids-place cart p t) (map (B·Constrains .constraint) (now (constraints .entry)))) (λ u p t. any-of (forbids-move cart u p t) (map (B·Constrains .constraint) (now (constraints .entry)))) ⌝ }
+    requires index { Rising begins.now moves.now places }
+    requires cells { length shut.old ≡ 8320 }
+    requires moves { length closed.old ≡ 1024 }
+    ensures { Barred begins.now moves.now places shut.old shut.new closed.old closed.new (λ p t. any_of (forbids_place cart p t) (map B.Constrains.constraint constraints.now)) (λ u p t. any_of (forbids_move cart u p t) (map B.Constrains.constraint constraints.now)) }
 {
     for i in 0..constraints.len() {
         mark(

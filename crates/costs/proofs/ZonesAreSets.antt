@@ -1,67 +1,63 @@
 -- That the kind of zones, and the count in their text, is what it says of the zones, zone by zone.
 -- Assumes nothing.
-use mathlib.Core.Path.{_≡_, refl, sym, ap, _∙_}
-use mathlib.Core.Logic.{_⊎_, inl, inr, ⊎-elim}
-use Prim.Native.Nat.{ℕ, zero, suc, _+_, _/_, _%_, _^_, _<_, max}
-use native.Mathlib.Nat.{pow-suc, zero-div, mod-eq-of-lt}
-use native.Mathlib.Numerals.{one-add}
-use native.Mathlib.Omega.{arith}
-use lib.Bits.{bitOr, or-shr, or-step, or-lt}
-use lib.Count.{ones, ones-cat}
-use Rattle·std.proofs.shelf.Bits.{shr-shr, pow-pos, mod-pow-add, mod-below}
-use Rattle·std.proofs.shelf.Tests.{cases-order, eqb-true, eq-eqb}
-use Rattle·costs·specs.declared.zones.Zones.{Zones}
-use Rattle·costs·specs.ZoneSets.{count-below, AreSets}
+use Rattle.std.proofs.Common.{◌≡◌, ℕ, zero, suc, ◌+◌, ◌/◌, ◌%◌, ◌^◌, ◌<◌, max, ◌⊎◌, sym, refl, ap, ◌∙◌, inl, inr, ⊎_elim, mod-eq_of_lt, pow-suc, one-add, arith}
+use native.Mathlib.Nat.{zero-div}
+use lib.Bits.{bit_or, or_shr, or_step, or_lt}
+use lib.Count.{ones, ones_cat}
+use Rattle.std.proofs.lemmas.Nat.{shr-shr, pow_pos, mod-pow-add, mod_below}
+use Rattle.std.proofs.lemmas.Bool.{cases_order, eqb-true, eq-eqb}
+use Rattle.costs.specs.declared.zones.Zones.{Zones}
+use Rattle.costs.specs.ZoneSets.{count_below, AreSets}
 
-or-low : (a b : ℕ) → bitOr a b % 2 ≡ max (a % 2) (b % 2)
-or-low a b = omega (arith, or-step a b)
+or_low : (a b : ℕ) → bit_or a b % 2 ≡ max (a % 2) (b % 2)
+or_low a b = omega (arith, or_step a b)
 
-or-bit : (a b n : ℕ) → bitOr a b / 2 ^ n % 2 ≡ max (a / 2 ^ n % 2) (b / 2 ^ n % 2)
-or-bit a b n = ap (λ (x : ℕ). x % 2) (or-shr a b n) ∙ or-low (a / 2 ^ n) (b / 2 ^ n)
+or_bit : (a b n : ℕ) → bit_or a b / 2 ^ n % 2 ≡ max (a / 2 ^ n % 2) (b / 2 ^ n % 2)
+or_bit a b n = ap (λ (x : ℕ). x % 2) (or_shr a b n) ∙ or_low (a / 2 ^ n) (b / 2 ^ n)
 
 either : (x y : ℕ) → max (x % 2) (y % 2) ≡ 1 → (x % 2 ≡ 1) ⊎ (y % 2 ≡ 1)
-either x y h = ⊎-elim (λ e. inl (omega arith)) (⊎-elim (λ l. inr (omega arith)) (λ m. inl (omega arith))) (cases-order (x % 2) (y % 2))
+either x y h = ⊎_elim (λ e. inl (omega arith)) (⊎_elim (λ l. inr (omega arith)) (λ m. inl (omega arith))) (cases_order (x % 2) (y % 2))
 
-by-first : (x y : ℕ) → x % 2 ≡ 1 → max (x % 2) (y % 2) ≡ 1
-by-first x y h = omega arith
+by_first : (x y : ℕ) → x % 2 ≡ 1 → max (x % 2) (y % 2) ≡ 1
+by_first x y h = omega arith
 
-by-second : (x y : ℕ) → y % 2 ≡ 1 → max (x % 2) (y % 2) ≡ 1
-by-second x y h = omega arith
+by_second : (x y : ℕ) → y % 2 ≡ 1 → max (x % 2) (y % 2) ≡ 1
+by_second x y h = omega arith
 
-nothing-more : (x y : ℕ) → (x % 2 ≡ 1 → y % 2 ≡ 1) → max (x % 2) (y % 2) ≡ y % 2
-nothing-more x y h = ⊎-elim (λ e. let k = h e in omega arith) (⊎-elim (λ l. omega arith) (λ m. absurd (omega arith))) (cases-order (x % 2) 1)
+nothing_more : (x y : ℕ) → (x % 2 ≡ 1 → y % 2 ≡ 1) → max (x % 2) (y % 2) ≡ y % 2
+nothing_more x y h = ⊎_elim (λ e. let k = h e in omega arith) (⊎_elim (λ l. omega arith) (λ m. absurd (omega arith))) (cases_order (x % 2) 1)
 
 -- numbers with the same bits are the same
-same-bits : (k a b : ℕ) → a < 2 ^ k → b < 2 ^ k → ((n : ℕ) → n < k → a / 2 ^ n % 2 ≡ b / 2 ^ n % 2) → a ≡ b
-same-bits zero a b p q h = omega arith
-same-bits (suc k) a b p q h =
-    let p′ = rw pow-suc at p in
-    let q′ = rw pow-suc at q in
-    let high = same-bits k (a / 2) (b / 2) (omega arith) (omega arith) (λ n l.
+same_bits : (k a b : ℕ) → a < 2 ^ k → b < 2 ^ k → ((n : ℕ) → n < k → a / 2 ^ n % 2 ≡ b / 2 ^ n % 2) → a ≡ b
+same_bits zero a b p q h = omega arith
+same_bits (suc k) a b p q h =
+    let p' = rw pow-suc at p in
+    let q' = rw pow-suc at q in
+    let high = same_bits k (a / 2) (b / 2) (omega arith) (omega arith) (λ n l.
     ap (λ (x : ℕ). x % 2) (shr-shr a 1 n) ∙ h (1 + n) (omega arith) ∙ sym (ap (λ (x : ℕ). x % 2) (shr-shr b 1 n))) in
     omega (arith, h 0 (omega arith))
 
-digit-ones : (d : ℕ) → d < 2 → ones d ≡ d
+digit_ones : (d : ℕ) → d < 2 → ones d ≡ d
 unfolding ones
-digit-ones zero h = refl
-digit-ones (suc zero) h = refl
-digit-ones (suc (suc d)) h = absurd (omega arith)
+digit_ones zero h = refl
+digit_ones (suc zero) h = refl
+digit_ones (suc (suc d)) h = absurd (omega arith)
 
-ones-below : (k : ℕ) (z : Zones) → ones (z .bits % 2 ^ k) ≡ count-below k z
-ones-below zero z = let e : z .bits % 2 ^ 0 ≡ 0 = omega arith in ap ones e ∙ digit-ones 0 (omega arith)
-ones-below (suc k) z =
-    ap (λ (n : ℕ). ones (z .bits % 2 ^ n)) (sym (one-add k)) ∙ ap ones (mod-pow-add (z .bits) 1 k) ∙ ones-cat k _ _ (mod-below (z .bits) (2 ^ k) (pow-pos k)) ∙ ap (λ (x : ℕ). x + ones (z .bits % 2 ^ k)) (digit-ones _ (omega arith))
-    ∙ ap (λ (x : ℕ). z .bits / 2 ^ k % 2 + x) (ones-below k z)
+ones_below : (k : ℕ) (z : Zones) → ones (z.bits % 2 ^ k) ≡ count_below k z
+ones_below zero z = let e : z.bits % 2 ^ 0 ≡ 0 = omega arith in ap ones e ∙ digit_ones 0 (omega arith)
+ones_below (suc k) z =
+    ap (λ (n : ℕ). ones (z.bits % 2 ^ n)) (sym (one-add k)) ∙ ap ones (mod-pow-add z.bits 1 k) ∙ ones_cat k _ _ (mod_below z.bits (2 ^ k) (pow_pos k)) ∙ ap (λ (x : ℕ). x + ones (z.bits % 2 ^ k)) (digit_ones _ (omega arith))
+    ∙ ap (λ (x : ℕ). z.bits / 2 ^ k % 2 + x) (ones_below k z)
 
-pub are-sets : AreSets
-are-sets =
+pub are_sets : AreSets
+are_sets =
     record {
       none = λ n h. omega (arith, zero-div (2 ^ n), h);
-      joined = λ a b n h. either (a .bits / 2 ^ n) (b .bits / 2 ^ n) (sym (or-bit (a .bits) (b .bits) n) ∙ h);
-      from-first = λ a b n h. or-bit (a .bits) (b .bits) n ∙ by-first (a .bits / 2 ^ n) (b .bits / 2 ^ n) h;
-      from-second = λ a b n h. or-bit (a .bits) (b .bits) n ∙ by-second (a .bits / 2 ^ n) (b .bits / 2 ^ n) h;
-      subset = λ a b le n h. ap (λ (x : ℕ). x / 2 ^ n % 2) (sym (eqb-true _ _ le)) ∙ or-bit (a .bits) (b .bits) n ∙ by-first (a .bits / 2 ^ n) (b .bits / 2 ^ n) h;
-      from-subset = λ a b h. eq-eqb _ _ (same-bits 64 _ _ (or-lt 64 (a .bits) (b .bits) (a .fits) (b .fits)) (b .fits) (λ n l.
-          or-bit (a .bits) (b .bits) n ∙ nothing-more (a .bits / 2 ^ n) (b .bits / 2 ^ n) (h n l)));
-      counted = λ z. ap ones (sym (mod-eq-of-lt (z .fits))) ∙ ones-below 64 z;
+      joined = λ a b n h. either (a.bits / 2 ^ n) (b.bits / 2 ^ n) (sym (or_bit a.bits b.bits n) ∙ h);
+      from_first = λ a b n h. or_bit a.bits b.bits n ∙ by_first (a.bits / 2 ^ n) (b.bits / 2 ^ n) h;
+      from_second = λ a b n h. or_bit a.bits b.bits n ∙ by_second (a.bits / 2 ^ n) (b.bits / 2 ^ n) h;
+      subset = λ a b le n h. ap (λ (x : ℕ). x / 2 ^ n % 2) (sym (eqb-true _ _ le)) ∙ or_bit a.bits b.bits n ∙ by_first (a.bits / 2 ^ n) (b.bits / 2 ^ n) h;
+      from_subset = λ a b h. eq-eqb _ _ (same_bits 64 _ _ (or_lt 64 a.bits b.bits a.fits b.fits) b.fits (λ n l.
+          or_bit a.bits b.bits n ∙ nothing_more (a.bits / 2 ^ n) (b.bits / 2 ^ n) (h n l)));
+      counted = λ z. ap ones (sym (mod-eq_of_lt z.fits)) ∙ ones_below 64 z;
     }

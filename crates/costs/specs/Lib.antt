@@ -4,3 +4,9 @@ pub mod Totals
 pub mod Worsts
 pub mod ZoneSets
 pub mod Pairs
+pub mod PairLaws
+pub mod TotalLaws
+pub mod SizeLaws
+pub mod TextLaws
+pub mod WorstLaws
+pub mod ZonesLaws

@@ -1,21 +1,17 @@
-ghost use mathlib.Core.Path.{_≡_};
-ghost use mathlib.Core.List.{_++_};
-ghost use Prim.Native.Nat.{_≤_, _<_};
-ghost use lib.ListN.{length, drop};
-ghost use Rattle·std.specs.Written.{decimal};
-ghost use Rattle·costs·specs.Texts.{Long, Wrote, hex-digit, hex-digits};
+ghost use Rattle.std.specs.Prelude.{◌≡◌, ◌<◌, ◌≤◌, ◌++◌, length, drop, decimal};
+ghost use Rattle.costs.specs.Texts.{Long, Wrote, hex_digit, hex_digits};
 
 // How many digits `n` has in base ten.
 pub(crate) fn decimal_len(n: u64) -> usize
-    ensures value { λ r. ⌜ r ≡ length (decimal n) ⌝ }
-    ensures bound { λ r. ⌜ r ≤ 20 ⌝ }
+    ensures value { result ≡ length (decimal n) }
+    ensures bound { result ≤ 20 }
 {
     if n < 10 { 1 } else { decimal_len(n / 10) + 1 }
 }
 
 // How many digits `n` has in base ten, if no more than `room`.
 pub(crate) fn decimal_len_within(n: u64, room: usize) -> Option<usize>
-    ensures { λ r. ⌜ Long (decimal n) room r ⌝ }
+    ensures { Long (decimal n) room result }
 {
     let len = decimal_len(n);
     if len <= room { Some(len) } else { None }
@@ -23,9 +19,9 @@ pub(crate) fn decimal_len_within(n: u64, room: usize) -> Option<usize>
 
 // Writes the digits of `n` in base ten at the front of `out`, and says how many.
 pub(crate) fn put_decimal(n: u64, out: &mut [u8]) -> usize
-    requires { ⌜ length (decimal n) ≤ length (now out) ⌝ }
-    ensures len { λ r. ⌜ r ≡ length (decimal n) ⌝ }
-    ensures bytes { λ _. ⌜ now (out .exit) ≡ decimal n ++ drop (length (decimal n)) (now (out .entry)) ⌝ }
+    requires { length (decimal n) ≤ length out.old }
+    ensures len { result ≡ length (decimal n) }
+    ensures bytes { out.new ≡ decimal n ++ drop (length (decimal n)) out.old }
 {
     if n < 10 {
         out[0] = b'0' + n as u8;
@@ -39,7 +35,7 @@ pub(crate) fn put_decimal(n: u64, out: &mut [u8]) -> usize
 
 // The same where they fit; else writes nothing.
 pub(crate) fn write_decimal(n: u64, out: &mut [u8]) -> Option<usize>
-    ensures { λ r. ⌜ Wrote (decimal n) (now (out .entry)) (now (out .exit)) r ⌝ }
+    ensures { Wrote (decimal n) out.old out.new result }
 {
     if decimal_len(n) <= out.len() {
         Some(put_decimal(n, out))
@@ -49,16 +45,16 @@ pub(crate) fn write_decimal(n: u64, out: &mut [u8]) -> Option<usize>
 }
 
 fn hex_digit(d: u8) -> u8
-    requires { ⌜ d < 16 ⌝ }
-    ensures { λ r. ⌜ r ≡ hex-digit d ⌝ }
+    requires { d < 16 }
+    ensures { result ≡ hex_digit d }
 {
     if d < 10 { b'0' + d } else { b'a' + (d - 10) }
 }
 
 // Writes the last `k` digits of `n`, to the base 16, at the front of `out`.
 pub(crate) fn put_hex_digits(k: usize, n: u64, out: &mut [u8])
-    requires { ⌜ k ≤ length (now out) ⌝ }
-    ensures { λ _. ⌜ now (out .exit) ≡ hex-digits k n ++ drop k (now (out .entry)) ⌝ }
+    requires { k ≤ length out.old }
+    ensures { out.new ≡ hex_digits k n ++ drop k out.old }
 {
     if k > 0 {
         put_hex_digits(k - 1, n / 16, out);

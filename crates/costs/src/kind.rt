@@ -1,23 +1,24 @@
-ghost use mathlib.Core.Path.{_≡_};
-ghost use Rattle·rules.specs.Kinds.{Kind, Laws};
+ghost use Rattle.std.specs.Prelude.{◌≡◌};
+ghost use Rattle.rules.specs.Kinds.{Kind, Laws};
+
 use crate::text::Text;
 
 // A kind of cost: what it means is a `Kind` of the rules, and it keeps that kind's laws.
 pub trait CostKind: Text + Copy + Drop {
     ghost kind: { Kind Self };
 
-    law laws: { Laws kind };
-
     fn zero() -> Self
-        ensures { λ r. ⌜ r ≡ kind .zero ⌝ };
+        ensures { result ≡ kind.zero };
 
     fn join(self, other: Self) -> Self
-        ensures { λ r. ⌜ r ≡ kind .join self other ⌝ };
+        ensures { result ≡ kind.join self other };
 
     fn at_most(self, other: Self) -> bool
-        ensures { λ r. ⌜ r ≡ kind .at-most self other ⌝ };
+        ensures { result ≡ kind.at_most self other };
 
     // Whether it stands before the other in the kind's order.
     fn before(self, other: Self) -> bool
-        ensures { λ r. ⌜ r ≡ kind .before self other ⌝ };
+        ensures { result ≡ kind.before self other };
+
+    ghost laws: { Laws kind };
 }

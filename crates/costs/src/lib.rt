@@ -1,3 +1,5 @@
+#![tactic(auto)]
+
 mod digits;
 mod kind;
 pub mod pair;
@@ -15,17 +17,8 @@ mod zones_kind;
 
 pub use kind::CostKind;
 pub use pair::Pair;
-pub use pair_kind::PairKind;
-pub use pair_kind::PairText;
-pub use promises::texts_apart;
-pub use promises::zones_are_sets;
+pub use promises::{texts_apart, zones_are_sets};
 pub use text::Text;
 pub use total::Total;
-pub use total_kind::TotalKind;
-pub use total_kind::TotalText;
 pub use worst::Worst;
-pub use worst_kind::WorstKind;
-pub use worst_kind::WorstText;
 pub use zones::Zones;
-pub use zones_kind::ZonesKind;
-pub use zones_kind::ZonesText;

@@ -1,11 +1,15 @@
-ghost use Rattle·costs·specs.Pairs.{pair-kind};
-ghost use Rattle·costs·specs.Texts.{spaced};
+ghost use Rattle.costs.specs.Pairs.{pair_kind};
+ghost use Rattle.costs.specs.Texts.{spaced};
+ghost use Rattle.costs.specs.PairLaws.{pair_texts, pair_laws};
+
 use crate::kind::CostKind;
 use crate::pair::Pair;
 use crate::text::Text;
 
-pub impl<A: Text, B: Text> Text for Pair<A, B> as PairText {
-    ghost text = { λ p. spaced (A·Text .text (p .first)) (B·Text .text (p .second)) };
+impl<A: Text, B: Text> Text for Pair<A, B> {
+    ghost text = { λ p. spaced (A.Text.text p.first) (B.Text.text p.second) };
+
+    ghost texts = { pair_texts A.Text.texts B.Text.texts };
 
     fn text_len(&self, room: usize) -> Option<usize> {
         let Some(first) = self.first.text_len(room) else {
@@ -36,8 +40,10 @@ pub impl<A: Text, B: Text> Text for Pair<A, B> as PairText {
     }
 }
 
-pub impl<A: CostKind, B: CostKind> CostKind for Pair<A, B> as PairKind {
-    ghost kind = { pair-kind (A·CostKind .kind) (B·CostKind .kind) };
+impl<A: CostKind, B: CostKind> CostKind for Pair<A, B> {
+    ghost kind = { pair_kind A.CostKind.kind B.CostKind.kind };
+
+    ghost laws = { pair_laws A.CostKind.laws B.CostKind.laws };
 
     fn zero() -> Pair<A, B> {
         Pair {

@@ -1,13 +1,16 @@
-ghost use Rattle·std.specs.Written.{decimal};
-ghost use Rattle·costs·specs.Totals.{total-kind};
-use crate::digits::decimal_len_within;
-use crate::digits::write_decimal;
+ghost use Rattle.std.specs.Prelude.{decimal};
+ghost use Rattle.costs.specs.Totals.{total_kind};
+ghost use Rattle.costs.specs.TotalLaws.{total_texts, total_laws};
+
+use crate::digits::{decimal_len_within, write_decimal};
 use crate::kind::CostKind;
 use crate::text::Text;
 use crate::total::Total;
 
-pub impl Text for Total as TotalText {
-    ghost text = { λ c. decimal (c .value) };
+impl Text for Total {
+    ghost text = { λ c. decimal c.value };
+
+    ghost texts = { total_texts };
 
     fn text_len(&self, room: usize) -> Option<usize> {
         decimal_len_within(self.value as u64, room)
@@ -18,8 +21,10 @@ pub impl Text for Total as TotalText {
     }
 }
 
-pub impl CostKind for Total as TotalKind {
-    ghost kind = { total-kind };
+impl CostKind for Total {
+    ghost kind = { total_kind };
+
+    ghost laws = { total_laws };
 
     fn zero() -> Total {
         Total { value: 0 }

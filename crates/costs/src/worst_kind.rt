@@ -1,13 +1,16 @@
-ghost use Rattle·std.specs.Written.{decimal};
-ghost use Rattle·costs·specs.Worsts.{worst-kind};
-use crate::digits::decimal_len_within;
-use crate::digits::write_decimal;
+ghost use Rattle.std.specs.Prelude.{decimal};
+ghost use Rattle.costs.specs.Worsts.{worst_kind};
+ghost use Rattle.costs.specs.WorstLaws.{worst_texts, worst_laws};
+
+use crate::digits::{decimal_len_within, write_decimal};
 use crate::kind::CostKind;
 use crate::text::Text;
 use crate::worst::Worst;
 
-pub impl Text for Worst as WorstText {
-    ghost text = { λ c. decimal (c .value) };
+impl Text for Worst {
+    ghost text = { λ c. decimal c.value };
+
+    ghost texts = { worst_texts };
 
     fn text_len(&self, room: usize) -> Option<usize> {
         decimal_len_within(self.value as u64, room)
@@ -18,8 +21,10 @@ pub impl Text for Worst as WorstText {
     }
 }
 
-pub impl CostKind for Worst as WorstKind {
-    ghost kind = { worst-kind };
+impl CostKind for Worst {
+    ghost kind = { worst_kind };
+
+    ghost laws = { worst_laws };
 
     fn zero() -> Worst {
         Worst { value: 0 }

@@ -1,13 +1,15 @@
-ghost use Rattle·costs·specs.ZoneSets.{zones-kind, zones-text};
-use crate::digits::decimal_len;
-use crate::digits::put_decimal;
-use crate::digits::put_hex_digits;
+ghost use Rattle.costs.specs.ZoneSets.{zones_kind, zones_text};
+ghost use Rattle.costs.specs.ZonesLaws.{zones_texts, zones_laws};
+
+use crate::digits::{decimal_len, put_decimal, put_hex_digits};
 use crate::kind::CostKind;
 use crate::text::Text;
 use crate::zones::Zones;
 
-pub impl Text for Zones as ZonesText {
-    ghost text = { zones-text };
+impl Text for Zones {
+    ghost text = { zones_text };
+
+    ghost texts = { zones_texts };
 
     fn text_len(&self, room: usize) -> Option<usize> {
         let len = decimal_len(self.bits.count_ones() as u64) + 17;
@@ -26,8 +28,10 @@ pub impl Text for Zones as ZonesText {
     }
 }
 
-pub impl CostKind for Zones as ZonesKind {
-    ghost kind = { zones-kind };
+impl CostKind for Zones {
+    ghost kind = { zones_kind };
+
+    ghost laws = { zones_laws };
 
     fn zero() -> Zones {
         Zones { bits: 0 }

@@ -1,8 +1,8 @@
-ghost use Rattle·digits·specs.Splits.{SplitOnce};
+ghost use Rattle.digits.specs.Splits.{SplitOnce};
 
 // What stands before and after the first `byte`, if there is one.
 pub fn split_once(bytes: &[u8], byte: u8) -> Option<(&[u8], &[u8])>
-    ensures { λ r. ⌜ SplitOnce byte (now (bytes .entry)) r ⌝ }
+    ensures { SplitOnce byte bytes.now result }
 {
     for (i, b) in bytes.iter().enumerate() {
         if *b == byte {

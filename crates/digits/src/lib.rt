@@ -1,6 +1,7 @@
+#![tactic(auto)]
+
 pub mod bytes;
 pub mod numbers;
 
 pub use bytes::split_once;
-pub use numbers::ReadFault;
-pub use numbers::read_number;
+pub use numbers::{ReadFault, read_number};

@@ -1,7 +1,7 @@
-ghost use Rattle·std.specs.Orderings.{Decides};
-ghost use Rattle·std.specs.Text.{In};
-ghost use Rattle·std.specs.shelf.Lists.{All};
-ghost use Rattle·digits·specs.Numbers.{BaseTen, NumberRead};
+ghost use Rattle.std.specs.Prelude.{Decides};
+ghost use Rattle.std.specs.Int.{IsInRange};
+ghost use Rattle.std.specs.List.{AllByRecursion};
+ghost use Rattle.digits.specs.Numbers.{BaseTen, NumberRead};
 
 // Why bytes are not read: they are not of the form, or they write a number above the most.
 #[derive(Clone, Copy, PartialEq, Eq, Debug)]
@@ -12,7 +12,7 @@ pub enum ReadFault {
 
 // Whether every byte is a digit.
 fn all_digits(bytes: &[u8]) -> bool
-    ensures { λ r. ⌜ Decides r (All (In 48 57) (now (bytes .entry))) ⌝ }
+    ensures { Decides result (AllByRecursion (IsInRange 48 57) bytes.now) }
 {
     for b in bytes {
         if !b.is_ascii_digit() {
@@ -24,7 +24,7 @@ fn all_digits(bytes: &[u8]) -> bool
 
 // Whether the bytes are a number in base ten, of any size.
 fn base_ten(bytes: &[u8]) -> bool
-    ensures { λ r. ⌜ Decides r (BaseTen (now (bytes .entry))) ⌝ }
+    ensures { Decides result (BaseTen bytes.now) }
 {
     if bytes.is_empty() || bytes.len() > 1 && bytes[0] == b'0' {
         return false;
@@ -34,7 +34,7 @@ fn base_ten(bytes: &[u8]) -> bool
 
 // The number that the bytes write in base ten, if at most `most`.
 pub fn read_number(bytes: &[u8], most: u32) -> Result<u32, ReadFault>
-    ensures { λ r. ⌜ NumberRead most (now (bytes .entry)) r ⌝ }
+    ensures { NumberRead most bytes.now result }
 {
     if !base_ten(bytes) {
         return Err(ReadFault::Malformed);

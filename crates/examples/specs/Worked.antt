@@ -1,25 +1,23 @@
 -- Worked examples, each a theorem of the rules: how its search ends, and that the guarantee applies to it.
 -- Assumes nothing.
-use mathlib.Core.Path.{_≡_}
-use mathlib.Core.List.{List, [], _∷_, map}
-use Prim.Native.Nat.{ℕ, _<_, _^_}
-use native.Mathlib.Omega.{arith}
-use Rattle·rules.specs.Kinds.{Kind}
-use Rattle·rules.specs.Instances.{Instance, Move, Cart, Sound}
-use Rattle·rules.specs.Search.{Line, Limits, Ending, budget-spent, search-done, stop, labels-exceeded, trail-full, list-full, Advance, going, over, advance, made}
-use Rattle·rules.specs.Guarantee.{Guarantee}
-use Rattle·costs.specs.declared.pair.Pair.{Pair}
-use Rattle·costs.specs.declared.total.Total.{Total}
-use Rattle·costs.specs.declared.worst.Worst.{Worst}
-use Rattle·costs.specs.Totals.{total-kind}
-use Rattle·costs.specs.Worsts.{worst-kind}
-use Rattle·costs.specs.Pairs.{pair-kind}
+use Rattle.std.specs.Prelude.{◌≡◌, List, [], ◌∷◌, map, ℕ, ◌<◌, ◌^◌}
+use Rattle.std.proofs.Common.{arith}
+use Rattle.rules.specs.Kinds.{Kind}
+use Rattle.rules.specs.Instances.{Instance, Move, Cart, Sound}
+use Rattle.rules.specs.Search.{Line, Limits, Ending, budget_spent, search_done, stop, labels_exceeded, trail_full, list_full, Advance, going, over, advance, made}
+use Rattle.rules.specs.Guarantee.{Guarantee}
+use Rattle.costs.specs.declared.pair.Pair.{Pair}
+use Rattle.costs.specs.declared.total.Total.{Total}
+use Rattle.costs.specs.declared.worst.Worst.{Worst}
+use Rattle.costs.specs.Totals.{total_kind}
+use Rattle.costs.specs.Worsts.{worst_kind}
+use Rattle.costs.specs.Pairs.{pair_kind}
 
 abbrev pub Cost : Type 0
 Cost = Pair Total Worst
 
-abbrev pub cost-kind : Kind Cost
-cost-kind = pair-kind total-kind worst-kind
+abbrev pub cost_kind : Kind Cost
+cost_kind = pair_kind total_kind worst_kind
 
 abbrev pub cost : (total worst : ℕ) → total < 2 ^ 32 → worst < 2 ^ 16 → Cost
 cost total worst t w = record { first = record { value = total; fits = t }; second = record { value = worst; fits = w } }
@@ -38,28 +36,28 @@ abbrev pub cart : (start goal : ℕ) → Cart
 cart start goal = record { start = start; goal = goal }
 
 abbrev pub site : ℕ → List (List Move) → List Cost → List Cart → Instance Cost
-site horizon moves tariff carts = record { kind = cost-kind; moves = moves; tariff = tariff; carts = carts; horizon = horizon }
+site horizon moves tariff carts = record { kind = cost_kind; moves = moves; tariff = tariff; carts = carts; horizon = horizon }
 
 -- a cart from 0 to 2, by one rough lane or by two smooth ones through place 1, where another cart stands that can step aside to 3 and back
-abbrev pub two-carts : ℕ → Instance Cost
-two-carts horizon =
+abbrev pub two_carts : ℕ → Instance Cost
+two_carts horizon =
     site horizon ((move 2 0 ∷ move 1 1 ∷ []) ∷ (move 2 1 ∷ move 3 1 ∷ []) ∷ [] ∷ (move 1 1 ∷ []) ∷ []) (rough ∷ smooth ∷ []) (cart 0 2 ∷ cart 1 1 ∷ [])
 
 -- one cart, whose start is its goal
-abbrev pub already-there : Instance Cost
-already-there = site 2 ([] ∷ []) (smooth ∷ []) (cart 0 0 ∷ [])
+abbrev pub already_there : Instance Cost
+already_there = site 2 ([] ∷ []) (smooth ∷ []) (cart 0 0 ∷ [])
 
 -- two carts that change ends on a two-way lane
-abbrev pub changing-ends : Instance Cost
-changing-ends = site 1 ((move 1 0 ∷ []) ∷ (move 0 0 ∷ []) ∷ []) (smooth ∷ []) (cart 0 1 ∷ cart 1 0 ∷ [])
+abbrev pub changing_ends : Instance Cost
+changing_ends = site 1 ((move 1 0 ∷ []) ∷ (move 0 0 ∷ []) ∷ []) (smooth ∷ []) (cart 0 1 ∷ cart 1 0 ∷ [])
 
 -- three carts on a ring of three places, each to the next
-abbrev pub round-a-ring : Instance Cost
-round-a-ring = site 1 ((move 1 0 ∷ []) ∷ (move 2 0 ∷ []) ∷ (move 0 0 ∷ []) ∷ []) (smooth ∷ []) (cart 0 1 ∷ cart 1 2 ∷ cart 2 0 ∷ [])
+abbrev pub round_a_ring : Instance Cost
+round_a_ring = site 1 ((move 1 0 ∷ []) ∷ (move 2 0 ∷ []) ∷ (move 0 0 ∷ []) ∷ []) (smooth ∷ []) (cart 0 1 ∷ cart 1 2 ∷ cart 2 0 ∷ [])
 
 -- a cart stands at the one place that another has to go through
-abbrev pub in-the-way : Instance Cost
-in-the-way = site 2 ((move 1 0 ∷ []) ∷ (move 2 0 ∷ []) ∷ [] ∷ []) (smooth ∷ []) (cart 1 1 ∷ cart 0 2 ∷ [])
+abbrev pub in_the_way : Instance Cost
+in_the_way = site 2 ((move 1 0 ∷ []) ∷ (move 2 0 ∷ []) ∷ [] ∷ []) (smooth ∷ []) (cart 1 1 ∷ cart 0 2 ∷ [])
 
 abbrev pub room : (labels trail list : ℕ) → Limits
 room labels trail list = record { labels = labels; trail = trail; list = list }
@@ -73,7 +71,7 @@ abbrev pub Listed : Type 0
 Listed = ℕ × ℕ × List (List ℕ)
 
 abbrev pub read : Line Cost → Listed
-read l = (l .cost .first .value, l .cost .second .value, l .item)
+read l = (l.cost.first.value, l.cost.second.value, l.item)
 
 -- how a search ends: the turns, the branches examined among them, why it ended, and the plans listed
 pub record Outcome : Type 0 where
@@ -85,33 +83,33 @@ pub record Outcome : Type 0 where
 abbrev pub ends : ℕ → ℕ → Ending → List Listed → Outcome
 ends turns examined why plans = record { turns = turns; examined = examined; why = why; plans = plans }
 
-abbrev pub outcome-of : Advance Cost → Outcome
-outcome-of (going n e q) = ends n e budget-spent (map read (q .listed))
-outcome-of (over n e w q) = ends n e w (map read (q .listed))
+abbrev pub outcome_of : Advance Cost → Outcome
+outcome_of (going n e q) = ends n e budget_spent (map read q.listed)
+outcome_of (over n e w q) = ends n e w (map read q.listed)
 
 -- what a budget of 1,000 turns comes to
 abbrev pub outcome : Instance Cost → Limits → Outcome
-outcome i r = outcome-of (advance i r 1000 (made i))
+outcome i r = outcome_of (advance i r 1000 (made i))
 
 pub record Worked (i : Instance Cost) (r : Limits) (o : Outcome) : Type 0 where
-  pub so-ends : outcome i r ≡ o
+  pub so_ends : outcome i r ≡ o
   pub sound : Sound i
   pub applies : Guarantee i r
 
-abbrev pub by-rough-lane : Listed
-by-rough-lane = (1, 5, (0 ∷ 2 ∷ 2 ∷ []) ∷ (1 ∷ 1 ∷ 1 ∷ []) ∷ [])
+abbrev pub by_rough_lane : Listed
+by_rough_lane = (1, 5, (0 ∷ 2 ∷ 2 ∷ []) ∷ (1 ∷ 1 ∷ 1 ∷ []) ∷ [])
 
-abbrev pub round-about : Listed
-round-about = (4, 1, (0 ∷ 1 ∷ 2 ∷ []) ∷ (1 ∷ 3 ∷ 1 ∷ []) ∷ [])
+abbrev pub round_about : Listed
+round_about = (4, 1, (0 ∷ 1 ∷ 2 ∷ []) ∷ (1 ∷ 3 ∷ 1 ∷ []) ∷ [])
 
 pub record WorkedExamples : Type 0 where
-  pub two-plans : Worked (two-carts 2) roomy (ends 11 4 search-done (by-rough-lane ∷ round-about ∷ []))
-  pub no-trail-row : Worked (two-carts 2) (room 2048 0 32) (ends 3 1 (stop trail-full) (by-rough-lane ∷ []))
-  pub one-list-row : Worked (two-carts 2) (room 2048 512 1) (ends 8 3 (stop list-full) (by-rough-lane ∷ []))
-  pub five-label-rows : Worked (two-carts 2) (room 5 512 32) (ends 11 4 search-done (by-rough-lane ∷ round-about ∷ []))
-  pub four-label-rows : Worked (two-carts 2) (room 4 512 32) (ends 0 0 (stop labels-exceeded) [])
-  pub one-tick : Worked (two-carts 1) roomy (ends 3 1 search-done ((1, 5, (0 ∷ 2 ∷ []) ∷ (1 ∷ 1 ∷ []) ∷ []) ∷ []))
-  pub standing : Worked already-there roomy (ends 3 1 search-done ((0, 0, (0 ∷ 0 ∷ 0 ∷ []) ∷ []) ∷ []))
-  pub exchange : Worked changing-ends roomy (ends 5 1 search-done [])
-  pub ring : Worked round-a-ring roomy (ends 3 1 search-done ((3, 1, (0 ∷ 1 ∷ []) ∷ (1 ∷ 2 ∷ []) ∷ (2 ∷ 0 ∷ []) ∷ []) ∷ []))
-  pub blocked : Worked in-the-way roomy (ends 5 1 search-done [])
+  pub two_plans : Worked (two_carts 2) roomy (ends 11 4 search_done (by_rough_lane ∷ round_about ∷ []))
+  pub no_trail_row : Worked (two_carts 2) (room 2048 0 32) (ends 3 1 (stop trail_full) (by_rough_lane ∷ []))
+  pub one_list_row : Worked (two_carts 2) (room 2048 512 1) (ends 8 3 (stop list_full) (by_rough_lane ∷ []))
+  pub five_label_rows : Worked (two_carts 2) (room 5 512 32) (ends 11 4 search_done (by_rough_lane ∷ round_about ∷ []))
+  pub four_label_rows : Worked (two_carts 2) (room 4 512 32) (ends 0 0 (stop labels_exceeded) [])
+  pub one_tick : Worked (two_carts 1) roomy (ends 3 1 search_done ((1, 5, (0 ∷ 2 ∷ []) ∷ (1 ∷ 1 ∷ []) ∷ []) ∷ []))
+  pub standing : Worked already_there roomy (ends 3 1 search_done ((0, 0, (0 ∷ 0 ∷ 0 ∷ []) ∷ []) ∷ []))
+  pub exchange : Worked changing_ends roomy (ends 5 1 search_done [])
+  pub ring : Worked round_a_ring roomy (ends 3 1 search_done ((3, 1, (0 ∷ 1 ∷ []) ∷ (1 ∷ 2 ∷ []) ∷ (2 ∷ 0 ∷ []) ∷ []) ∷ []))
+  pub blocked : Worked in_the_way roomy (ends 5 1 search_done [])

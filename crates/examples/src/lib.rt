@@ -1,8 +1,10 @@
-ghost use Rattle·examples·specs.Worked.{WorkedExamples};
+#![tactic(auto)]
+
+ghost use Rattle.examples.specs.Worked.{WorkedExamples};
 
 // The worked examples, at the kind of cost that sites are quoted in: Total, then Worst.
 pub fn worked_examples() -> u8
-    ensures { λ _. ⌜ WorkedExamples ⌝ }
+    ensures { WorkedExamples }
 {
     0
 }

@@ -1,4 +1,2 @@
 mod Cells
 pub mod LaneTables
-mod Shut
-mod Tables

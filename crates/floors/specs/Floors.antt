@@ -1,25 +1,21 @@
 -- What every floor shows of its moves.
 -- Assumes nothing.
-use mathlib.Core.List.{List}
-use mathlib.Core.Option.{Option, none, some}
-use Prim.Native.Nat.{_≤_, _<_}
-use lib.ListN.{length}
-use Rattle·std.specs.declared.option.Option.{Option as Answer}
-use Rattle·std.specs.declared.option.Option.the-variants.{Some, None}
-use Rattle·std.specs.shelf.Lists.{All}
-use Rattle·rules.specs.Instances.{Move}
-use Rattle·floors·specs.declared.step.Step.{Step}
+use Rattle.std.specs.Prelude.{◌<◌, ◌≤◌, List, length, Some, None, Option as Answer}
+use Rattle.std.proofs.Math.Option.{Option, none, some}
+use Rattle.std.specs.List.{AllByRecursion}
+use Rattle.rules.specs.Instances.{Move}
+use Rattle.floors.specs.declared.step.Step.{Step}
 
 -- a move as the code holds it
-abbrev pub move-of : Step → Move
-move-of s = record { to = s .to; line = s .line }
+abbrev pub move_of : Step → Move
+move_of s = record { to = s.to; line = s.line }
 
-abbrev pub step-option : Answer Step → Option Move
-step-option None = none
-step-option (Some s) = some (move-of s)
+abbrev pub step_option : Answer Step → Option Move
+step_option None = none
+step_option (Some s) = some (move_of s)
 
 pub record FloorBounds (moves : List (List Move)) : Type 0 where
-  pub some-place : 1 ≤ length moves
-  pub few-places : length moves ≤ 128
-  pub few-moves : All (λ ms. length ms ≤ 8) moves
-  pub moves-inside : All (All (λ m. m .to < length moves)) moves
+  pub some_place : 1 ≤ length moves
+  pub few_places : length moves ≤ 128
+  pub few_moves : AllByRecursion (λ ms. length ms ≤ 8) moves
+  pub moves_inside : AllByRecursion (AllByRecursion (λ m. m.to < length moves)) moves

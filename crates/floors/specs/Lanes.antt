@@ -1,43 +1,38 @@
 -- What a lane table means, and which of its rows are refused.
 -- Assumes nothing.
-use mathlib.Core.Bool.{Bool, cond, _&&_}
-use mathlib.Core.List.{List, [], _∷_, _++_, map}
-use mathlib.Core.Option.{Option, none, some}
-use Prim.Native.Nat.{ℕ}
-use lib.Dec.{eqb, ltb}
-use lib.ListN.{length, getD}
-use Rattle·std.specs.Iters.{counting}
-use Rattle·std.specs.shelf.Lists.{kept-by, sumBy}
-use Rattle·rules.specs.Instances.{Move}
-use Rattle·floors·specs.Refusals.{size-fits}
-use Rattle·floors·specs.declared.lane_row.LaneRow.{LaneRow}
+use Rattle.std.specs.Prelude.{ℕ, Bool, cond, ◌&&◌, List, [], ◌∷◌, ◌++◌, map, length, sum_by, filter, nat_eq, nat_lt, slice_index_or}
+use Rattle.std.proofs.Math.Option.{Option, none, some}
+use Rattle.std.specs.List.{range_with_len}
+use Rattle.rules.specs.Instances.{Move}
+use Rattle.floors.specs.Refusals.{size_fits}
+use Rattle.floors.specs.declared.lane_row.LaneRow.{LaneRow}
 
-abbrev pub row-move : LaneRow → Move
-row-move r = record { to = r .to; line = r .line }
+abbrev pub row_move : LaneRow → Move
+row_move r = record { to = r.to; line = r.line }
 
 -- a place's moves are its rows, in table order
-abbrev pub lane-moves : ℕ → List LaneRow → List (List Move)
-lane-moves places rows = map (λ p. map row-move (kept-by (λ r. eqb (r .from) p) rows)) (counting 0 places)
+abbrev pub lane_moves : ℕ → List LaneRow → List (List Move)
+lane_moves places rows = map (λ p. map row_move (filter (λ r. nat_eq r.from p) rows)) (range_with_len 0 places)
 
 -- a row that a floor with these moves can take: it names two of its places, and the first has fewer than 8 moves
-abbrev pub lane-fits : List (List Move) → LaneRow → Bool
-lane-fits moves r =
-    ltb (r .from) (length moves) && (ltb (r .to) (length moves) && ltb (length (getD moves (r .from) [])) 8)
+abbrev pub lane_fits : List (List Move) → LaneRow → Bool
+lane_fits moves r =
+    nat_lt r.from (length moves) && (nat_lt r.to (length moves) && nat_lt (length (slice_index_or moves r.from [])) 8)
 
 -- how many rows a floor has taken: each gave it one move
-abbrev pub lane-count : List (List Move) → ℕ
-lane-count moves = sumBy length moves
+abbrev pub lane_count : List (List Move) → ℕ
+lane_count moves = sum_by length moves
 
 -- one row more, whose number is that of the rows taken before it
-abbrev pub row-refusal : List (List Move) → LaneRow → Option (ℕ × List ℕ)
-row-refusal moves r = cond (lane-fits moves r) none (some (7, lane-count moves ∷ []))
+abbrev pub row_refusal : List (List Move) → LaneRow → Option (ℕ × List ℕ)
+row_refusal moves r = cond (lane_fits moves r) none (some (7, lane_count moves ∷ []))
 
 -- the first row of the rest that does not fit a floor with the rows before it
-abbrev pub rows-refusal : ℕ → List LaneRow → List LaneRow → Option (ℕ × List ℕ)
-rows-refusal places before [] = none
-rows-refusal places before (r ∷ rest) =
-    cond (lane-fits (lane-moves places before) r) (rows-refusal places (before ++ r ∷ []) rest) (some (7, length before ∷ []))
+abbrev pub rows_refusal : ℕ → List LaneRow → List LaneRow → Option (ℕ × List ℕ)
+rows_refusal places before [] = none
+rows_refusal places before (r ∷ rest) =
+    cond (lane_fits (lane_moves places before) r) (rows_refusal places (before ++ r ∷ []) rest) (some (7, length before ∷ []))
 
 -- a whole table: the number of places is checked first
-abbrev pub lane-refusal : ℕ → List LaneRow → Option (ℕ × List ℕ)
-lane-refusal places rows = cond (size-fits places) (rows-refusal places [] rows) (some (6, []))
+abbrev pub lane_refusal : ℕ → List LaneRow → Option (ℕ × List ℕ)
+lane_refusal places rows = cond (size_fits places) (rows_refusal places [] rows) (some (6, []))

@@ -4,3 +4,5 @@ pub mod Lanes
 pub mod MoveLists
 pub mod MoveTables
 pub mod Refusals
+pub mod Tables
+pub mod Shut

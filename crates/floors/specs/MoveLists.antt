@@ -1,16 +1,14 @@
 -- How an array of the steps of one place means its moves.
 -- Assumes nothing.
-use mathlib.Core.List.{List, [], map}
-use Prim.Native.Nat.{ℕ}
-use lib.ListN.{take, getD}
-use Rattle·rules.specs.Instances.{Move}
-use Rattle·floors·specs.Floors.{move-of}
-use Rattle·floors·specs.declared.move_list.MoveList.{MoveList}
+use Rattle.std.specs.Prelude.{ℕ, List, [], map, take, slice_index, slice_index_or}
+use Rattle.rules.specs.Instances.{Move}
+use Rattle.floors.specs.Floors.{move_of}
+use Rattle.floors.specs.declared.move_list.MoveList.{MoveList}
 
 -- the moves of one place
 abbrev pub held : MoveList → List Move
-held l = map move-of (take (l .count) (l .steps))
+held l = map move_of (take l.count l.steps)
 
 -- the place that step k of list p reaches, in use or not
 abbrev pub reached : List MoveList → ℕ → ℕ → ℕ
-reached lists p k = getD (getD (map (λ l. map (λ s. s .to) (l .steps)) lists) p []) k 0
+reached lists p k = slice_index (slice_index_or (map (λ l. map (λ s. s.to) l.steps) lists) p []) k

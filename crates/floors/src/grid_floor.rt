@@ -1,15 +1,11 @@
-ghost use mathlib.Core.Path.{_≡_};
-ghost use mathlib.Core.List.{[]};
-ghost use Prim.Native.Nat.{_+_, _*_, _<_, _≤_};
-ghost use lib.ListN.{length, getD};
-ghost use Rattle·std.specs.Options.{Cases};
-ghost use Rattle·std.specs.Vec.{made};
-ghost use Rattle·floors·specs.Grids.{cell-moves, entering, grid-moves, grid-refusal};
-ghost use Rattle·floors·specs.MoveTables.{extended, table-moves};
-ghost use Rattle·floors·specs.Refusals.{refusal-of};
+ghost use Rattle.std.specs.Prelude.{◌≡◌, ◌+◌, ◌*◌, ◌<◌, ◌≤◌, [], length, IfSome, IfOk, slice_index_or};
+ghost use Rattle.floors.specs.Grids.{cell_moves, entering, grid_moves, grid_refusal};
+ghost use Rattle.floors.specs.MoveTables.{extended, table_moves};
+ghost use Rattle.floors.specs.Refusals.{refusal_of};
+ghost use Rattle.floors.specs.Tables.{table_bounds};
+
 use crate::floor::Floor;
 use crate::move_table::MoveTable;
-use crate::move_table::MoveTableFloor;
 use crate::refusal::FloorRefusal;
 use crate::side::Side;
 use crate::step::Step;
@@ -32,8 +28,8 @@ const SIDES: [Side; 5] = [
 
 impl GridFloor {
     pub fn new(width: usize, height: usize, cells: &[u8]) -> Result<GridFloor, FloorRefusal>
-        ensures refusal { λ r. ⌜ refusal-of r ≡ grid-refusal width height (now (cells .entry)) ⌝ }
-        ensures moves { λ r. ⌜ made r (λ f. table-moves (f .table) ≡ grid-moves width height (now (cells .entry))) ⌝ }
+        ensures refusal { refusal_of result ≡ grid_refusal width height cells.now }
+        ensures moves { IfOk result (λ f. table_moves f.table ≡ grid_moves width height cells.now) }
     {
         let Some(places) = width.checked_mul(height) else {
             return Err(FloorRefusal::BadSize);
@@ -51,11 +47,11 @@ impl GridFloor {
 
 // The moves of one cell.
 fn add_cell(table: &mut MoveTable, width: usize, height: usize, cells: &[u8], place: usize)
-    requires place { ⌜ place < width * height ⌝ }
-    requires places { ⌜ length (table-moves (now table)) ≡ width * height ⌝ }
-    requires cells { ⌜ length (now cells) ≡ width * height ⌝ }
-    requires room { ⌜ length (getD (table-moves (now table)) place []) + 5 ≤ 8 ⌝ }
-    ensures { λ _. ⌜ table-moves (now (table .exit)) ≡ extended (table-moves (now (table .entry))) place (cell-moves width height (now (cells .entry)) place) ⌝ }
+    requires place { place < width * height }
+    requires places { length (table_moves table.old) ≡ width * height }
+    requires cells { length cells.now ≡ width * height }
+    requires room { length (slice_index_or (table_moves table.old) place []) + 5 ≤ 8 }
+    ensures { table_moves table.new ≡ extended (table_moves table.old) place (cell_moves width height cells.now place) }
 {
     if cells[place] == BLOCKED {
         return;
@@ -67,11 +63,11 @@ fn add_cell(table: &mut MoveTable, width: usize, height: usize, cells: &[u8], pl
 
 // The move from one cell to another, unless that is over the edge or blocked.
 fn enter(table: &mut MoveTable, cells: &[u8], from: usize, to: Option<usize>)
-    requires from { ⌜ from < length (table-moves (now table)) ⌝ }
-    requires to { ⌜ Cases to (Unit {0}) (λ p. p < length (table-moves (now table))) ⌝ }
-    requires cells { ⌜ length (now cells) ≡ length (table-moves (now table)) ⌝ }
-    requires room { ⌜ length (getD (table-moves (now table)) from []) < 8 ⌝ }
-    ensures { λ _. ⌜ table-moves (now (table .exit)) ≡ extended (table-moves (now (table .entry))) from (entering (now (cells .entry)) to) ⌝ }
+    requires from { from < length (table_moves table.old) }
+    requires to { IfSome to (λ p. p < length (table_moves table.old)) }
+    requires cells { length cells.now ≡ length (table_moves table.old) }
+    requires room { length (slice_index_or (table_moves table.old) from []) < 8 }
+    ensures { table_moves table.new ≡ extended (table_moves table.old) from (entering cells.now to) }
 {
     let Some(to) = to else {
         return;
@@ -88,8 +84,10 @@ fn enter(table: &mut MoveTable, cells: &[u8], from: usize, to: Option<usize>)
     }
 }
 
-pub impl Floor for GridFloor as GridFloorFloor {
-    ghost moves = { λ f. table-moves (f .table) };
+impl Floor for GridFloor {
+    ghost moves = { λ f. table_moves f.table };
+
+    ghost bounds = { λ f. table_bounds f.table };
 
     fn places(&self) -> u8 {
         self.table.places()

@@ -1,15 +1,12 @@
-ghost use mathlib.Core.Path.{_≡_};
-ghost use mathlib.Core.List.{[], _∷_};
-ghost use lib.ListN.{replicate};
-ghost use Rattle·std.specs.Results.{Cases};
-ghost use Rattle·std.specs.Vec.{made};
-ghost use Rattle·floors·specs.Lanes.{lane-count, lane-fits, lane-moves, lane-refusal, row-move, row-refusal};
-ghost use Rattle·floors·specs.MoveTables.{extended, table-moves};
-ghost use Rattle·floors·specs.Refusals.{refusal-of, size-refusal};
+ghost use Rattle.std.specs.Prelude.{◌≡◌, [], ◌∷◌, replicate, IfOk, MatchResult};
+ghost use Rattle.floors.specs.Lanes.{lane_count, lane_fits, lane_moves, lane_refusal, row_move, row_refusal};
+ghost use Rattle.floors.specs.MoveTables.{extended, table_moves};
+ghost use Rattle.floors.specs.Refusals.{refusal_of, size_refusal};
+ghost use Rattle.floors.specs.Tables.{table_bounds};
+
 use crate::floor::Floor;
 use crate::lane_row::LaneRow;
 use crate::move_table::MoveTable;
-use crate::move_table::MoveTableFloor;
 use crate::refusal::FloorRefusal;
 use crate::step::Step;
 
@@ -18,14 +15,14 @@ use crate::step::Step;
 pub struct LaneFloor {
     table: MoveTable,
     lanes: u16,
-    ghost counted: { lanes ≡ lane-count (table-moves table) },
+    ghost counted: { lanes ≡ lane_count (table_moves table) },
 }
 
 impl LaneFloor {
     // The floor of a whole table.
     pub fn new(places: u16, rows: &[LaneRow]) -> Result<LaneFloor, FloorRefusal>
-        ensures refusal { λ r. ⌜ refusal-of r ≡ lane-refusal places (now (rows .entry)) ⌝ }
-        ensures moves { λ r. ⌜ made r (λ f. table-moves (f .table) ≡ lane-moves places (now (rows .entry))) ⌝ }
+        ensures refusal { refusal_of result ≡ lane_refusal places rows.now }
+        ensures moves { IfOk result (λ f. table_moves f.table ≡ lane_moves places rows.now) }
     {
         let mut floor = LaneFloor::empty(places)?;
         for row in rows {
@@ -36,8 +33,8 @@ impl LaneFloor {
 
     // A floor with no lane yet.
     pub fn empty(places: u16) -> Result<LaneFloor, FloorRefusal>
-        ensures refusal { λ r. ⌜ refusal-of r ≡ size-refusal places ⌝ }
-        ensures moves { λ r. ⌜ made r (λ f. table-moves (f .table) ≡ replicate places []) ⌝ }
+        ensures refusal { refusal_of result ≡ size_refusal places }
+        ensures moves { IfOk result (λ f. table_moves f.table ≡ replicate places []) }
     {
         if places < 1 || places > 128 {
             return Err(FloorRefusal::BadSize);
@@ -50,8 +47,8 @@ impl LaneFloor {
 
     // One lane more, after those of its place. A refused row leaves the floor as it was; its number is that of the lanes before it.
     pub fn add_lane(&mut self, row: LaneRow) -> Result<(), FloorRefusal>
-        ensures refusal { λ r. ⌜ refusal-of r ≡ row-refusal (table-moves (now (self .entry) .table)) row ⌝ }
-        ensures moves { λ r. ⌜ Cases r (λ _. table-moves (now (self .exit) .table) ≡ extended (table-moves (now (self .entry) .table)) (row .from) (row-move row ∷ [])) (λ _. now (self .exit) ≡ now (self .entry)) ⌝ }
+        ensures refusal { refusal_of result ≡ row_refusal (table_moves self.old.table) row }
+        ensures moves { MatchResult result (λ _. table_moves self.new.table ≡ extended (table_moves self.old.table) row.from (row_move row ∷ [])) (λ _. self.new ≡ self.old) }
     {
         if !self.takes(row) {
             return Err(FloorRefusal::BadRow(self.lanes));
@@ -68,15 +65,17 @@ impl LaneFloor {
     }
 
     fn takes(&self, row: LaneRow) -> bool
-        ensures { λ r. ⌜ r ≡ lane-fits (table-moves (now (self .entry) .table)) row ⌝ }
+        ensures { result ≡ lane_fits (table_moves self.now.table) row }
     {
         let places = self.table.places() as u16;
         row.from < places && row.to < places && self.table.move_count(row.from as u8) < 8
     }
 }
 
-pub impl Floor for LaneFloor as LaneFloorFloor {
-    ghost moves = { λ f. table-moves (f .table) };
+impl Floor for LaneFloor {
+    ghost moves = { λ f. table_moves f.table };
+
+    ghost bounds = { λ f. table_bounds f.table };
 
     fn places(&self) -> u8 {
         self.table.places()

@@ -1,3 +1,5 @@
+#![tactic(auto)]
+
 mod floor;
 mod grid_floor;
 pub mod lane_floor;
@@ -12,9 +14,7 @@ mod tests;
 
 pub use floor::Floor;
 pub use grid_floor::GridFloor;
-pub use grid_floor::GridFloorFloor;
 pub use lane_floor::LaneFloor;
-pub use lane_floor::LaneFloorFloor;
 pub use lane_row::LaneRow;
 pub use refusal::FloorRefusal;
 pub use step::Step;

@@ -1,13 +1,10 @@
-ghost use mathlib.Core.Path.{_≡_};
-ghost use Prim.Native.Nat.{ℕ, _≤_, _<_};
-ghost use lib.ListN.{length};
-ghost use Rattle·floors·specs.MoveLists.{reached};
+ghost use Rattle.std.specs.Prelude.{◌≡◌, ℕ, ◌<◌, ◌≤◌, length};
+ghost use Rattle.floors.specs.MoveLists.{reached};
+
 use crate::move_list::MoveList;
 
 mod asking;
 mod filling;
-
-pub use asking::MoveTableFloor;
 
 // The moves of every place of a floor. A step out of use reaches place 0, so that every step reaches a place of the floor.
 #[derive(Drop)]

@@ -1,7 +1,5 @@
-ghost use mathlib.Core.Path.{_≡_};
-ghost use Prim.Native.Nat.{_*_, _/_, _%_, _<_, _≤_};
-ghost use Rattle·std.specs.Options.{Cases};
-ghost use Rattle·floors·specs.Grids.{neighbour};
+ghost use Rattle.std.specs.Prelude.{◌≡◌, ◌*◌, ◌/◌, ◌%◌, ◌<◌, ◌≤◌, IfSome};
+ghost use Rattle.floors.specs.Grids.{neighbour};
 
 // Where a move from a cell of a grid leads: `Here` is a wait.
 #[derive(Clone, Copy)]
@@ -16,10 +14,10 @@ pub enum Side {
 impl Side {
     // The cell on this side of a place, or none over the edge.
     pub(crate) fn of(self, width: usize, height: usize, place: usize) -> Option<usize>
-        requires place { ⌜ place < width * height ⌝ }
-        requires few { ⌜ width * height ≤ 128 ⌝ }
-        ensures cell { λ r. ⌜ r ≡ neighbour width height (place % width) (place / width) self ⌝ }
-        ensures inside { λ r. ⌜ Cases r (Unit {0}) (λ p. p < width * height) ⌝ }
+        requires place { place < width * height }
+        requires few { width * height ≤ 128 }
+        ensures cell { result ≡ neighbour width height (place % width) (place / width) self }
+        ensures inside { IfSome result (λ p. p < width * height) }
     {
         let x = place % width;
         let y = place / width;

@@ -1,17 +1,16 @@
+#![tactic(auto)]
+
 // Prints the costs of a price list that no other dominates: `front costs` or `front zones`, with the list on standard input.
-use prices::Answer;
-use prices::MOST_BYTES;
-use prices::front_page;
-use std::env;
-use std::io;
-use std::io::Read;
-use std::io::Write;
+use prices::{Answer, MOST_BYTES, front_page};
+use std::io::{Read, Write};
+use std::process::ExitCode;
+use std::{env, io};
 
 #[cfg(test)]
 mod tests;
 
 // The one argument. With none, or more, the name is empty, and no list has it.
-fn list_name(rt: &LibcRuntime) -> io::Result<String> {
+fn list_name(rt: &HostRuntime) -> io::Result<String> {
     let mut args = env::args(rt)?;
     let _program = args.next();
     match (args.next(), args.next()) {
@@ -21,7 +20,7 @@ fn list_name(rt: &LibcRuntime) -> io::Result<String> {
 }
 
 // Prints the answer, and says whether it is a page. Reads a byte more than a list may have, so that too many are seen.
-fn run(rt: &LibcRuntime) -> io::Result<bool> {
+fn run(rt: &HostRuntime) -> io::Result<bool> {
     let name = list_name(rt)?;
     let mut input = Vec::new(rt.alloc());
     rt.stdin()
@@ -39,9 +38,10 @@ fn run(rt: &LibcRuntime) -> io::Result<bool> {
     }
 }
 
-fn main(rt: LibcRuntime) -> io::Result<()> {
-    if rt.report(run(&rt))? {
-        return Ok(());
+// A list that is refused has its one line already, so its status is told without an error.
+fn main(rt: HostRuntime) -> io::Result<ExitCode> {
+    if run(&rt)? {
+        return Ok(ExitCode::SUCCESS);
     }
-    Err(io::Error::from(io::ErrorKind::InvalidInput))
+    Ok(ExitCode::FAILURE)
 }

@@ -1,7 +1,5 @@
-use prices::Answer;
-use prices::MOST_BYTES;
-use prices::front_page;
-use std::test::*;
+use prices::{Answer, MOST_BYTES, front_page};
+use std::test::Fail;
 
 // A list's name, an input, and what is printed for it, on a page or not.
 const CASES: [(&str, &str, &str); 21] = [
@@ -49,29 +47,32 @@ const CASES: [(&str, &str, &str); 21] = [
 ];
 
 #[test]
-fn prints_what_the_format_says(rt: LibcRuntime) -> Result<(), Fail> {
+fn prints_what_the_format_says(rt: HostRuntime) -> Result<(), Fail> {
     for (name, input, printed) in CASES {
         match front_page(name, input.as_bytes(), rt.alloc())? {
-            Answer::Page(page) => check_eq(page.as_slice(), printed.as_bytes())?,
-            Answer::NoPage(line) => check_eq(line.as_str(), printed)?,
+            Answer::Page(page) => assert_eq!(rt; page.as_slice(), printed.as_bytes()),
+            Answer::NoPage(line) => assert_eq!(rt; line.as_str(), printed),
         }
     }
     Ok(())
 }
 
 #[test]
-fn takes_no_more_than_the_most_bytes(rt: LibcRuntime) -> Result<(), Fail> {
+fn takes_no_more_than_the_most_bytes(rt: HostRuntime) -> Result<(), Fail> {
     let mut input = Vec::new(rt.alloc());
     for _ in 0..MOST_BYTES / 4 {
         input.extend_from_slice(b"1 1\n")?;
     }
     match front_page("costs", input.as_slice(), rt.alloc())? {
-        Answer::Page(page) => check_eq(page.as_slice(), b"1 1\nkept 1 of 4096\n".as_slice())?,
+        Answer::Page(page) => assert_eq!(rt; page.as_slice(), b"1 1\nkept 1 of 4096\n".as_slice()),
         Answer::NoPage(_) => return Err(Fail::new("no page for the most bytes")),
     }
     input.push(b'\n')?;
     match front_page("costs", input.as_slice(), rt.alloc())? {
         Answer::Page(_) => Err(Fail::new("a page for too many bytes")),
-        Answer::NoPage(line) => check_eq(line.as_str(), "line 0: more than 16384 bytes\n"),
+        Answer::NoPage(line) => {
+            assert_eq!(rt; line.as_str(), "line 0: more than 16384 bytes\n");
+            Ok(())
+        },
     }
 }

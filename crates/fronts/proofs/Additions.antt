@@ -1,55 +1,49 @@
 -- A row added to a front: removed are those that it beats, and it stands at its place among the others.
 -- Assumes nothing.
-use mathlib.Core.Path.{_≡_, sym, ap, _∙_}
-use mathlib.Core.Bool.{false}
-use mathlib.Core.List.{List, [], _∷_}
-use mathlib.Core.Logic.{inl, inr}
-use Prim.Native.Nat.{ℕ, _+_, _<_, _≤_}
-use native.Mathlib.Omega.{arith}
-use lib.ListN.{length, take}
-use Rattle·std.proofs.shelf.Lists.{length-map, length-take}
-use Rattle·std.proofs.shelf.Tests.{cases-bool, cond-false}
-use Rattle·rules.specs.Kinds.{Kind}
-use Rattle·rules.specs.Fronts.{Entry, covered, unbeaten, placed, added}
-use Rattle·fronts·specs.declared.row.Row.{Row}
-use Rattle·fronts·specs.Rows.{entry-of, in-use}
-use Rattle·fronts·specs.Changes.{Holds}
-use Rattle·fronts·proofs.Parts.{drop-later}
-use Rattle·fronts·proofs.Insertions.{length-placed}
+use Rattle.std.proofs.Common.{◌≡◌, ℕ, ◌+◌, ◌<◌, ◌≤◌, false, List, [], ◌∷◌, length, take, sym, ap, ◌∙◌, inl, inr, arith}
+use Rattle.std.proofs.lemmas.List.{length-map, length-take}
+use Rattle.std.proofs.lemmas.Bool.{cases_Bool, cond-false}
+use Rattle.rules.specs.Kinds.{Kind}
+use Rattle.rules.specs.Fronts.{Entry, covered, unbeaten, placed, added}
+use Rattle.fronts.specs.declared.row.Row.{Row}
+use Rattle.fronts.specs.Rows.{entry_of, in_use}
+use Rattle.fronts.specs.Changes.{Holds}
+use Rattle.fronts.proofs.Parts.{drop_later}
+use Rattle.fronts.proofs.Insertions.{length-placed}
 
 -- the rows in use are among the rows
-pub holds-within : {C T : Type 0} {es : List (Entry C T)} {old rows : List (Row C T)} {n : ℕ} → Holds es old rows n → n ≤ length rows
-holds-within {rows = rows} {n = n} h = omega (arith, h .count, ap length (h .front), length-map (take n rows) entry-of, length-take n rows)
+pub holds_within : {C T : Type 0} {es : List (Entry C T)} {old rows : List (Row C T)} {n : ℕ} → Holds es old rows n → n ≤ length rows
+holds_within {rows = rows} {n = n} h = omega (arith, h.count, ap length h.front, length-map (take n rows) entry_of, length-take n rows)
 
 module _ {C T : Type 0} (k : Kind C) where
-  added-new : (es : List (Entry C T)) (x : Entry C T) → covered k es (x .cost) ≡ false → added k es x ≡ placed k (unbeaten k es (x .cost)) x
-  added-new es x = cond-false (covered k es (x .cost)) es (placed k (unbeaten k es (x .cost)) x)
+  added_new : (es : List (Entry C T)) (x : Entry C T) → covered k es x.cost ≡ false → added k es x ≡ placed k (unbeaten k es x.cost) x
+  added_new es x = cond-false (covered k es x.cost) es (placed k (unbeaten k es x.cost) x)
 
   -- what is put among those that stay is what is added
-  pub added-holds : (xs ys zs : List (Row C T)) (len n : ℕ) (r : Row C T) → covered k (in-use len xs) (r .cost) ≡ false →
-      Holds (unbeaten k (in-use len xs) (r .cost)) xs ys n → Holds (placed k (in-use n ys) (entry-of r)) ys zs (n + 1) → Holds (added k (in-use len xs) (entry-of r)) xs zs (n + 1)
-  added-holds xs ys zs len n r new stay put =
-      let same : placed k (in-use n ys) (entry-of r) ≡ added k (in-use len xs) (entry-of r) = ap (λ es. placed k es (entry-of r)) (stay .front) ∙ sym (added-new (in-use len xs) (entry-of r) new) in
+  pub added_holds : (xs ys zs : List (Row C T)) (len n : ℕ) (r : Row C T) → covered k (in_use len xs) r.cost ≡ false →
+      Holds (unbeaten k (in_use len xs) r.cost) xs ys n → Holds (placed k (in_use n ys) (entry_of r)) ys zs (n + 1) → Holds (added k (in_use len xs) (entry_of r)) xs zs (n + 1)
+  added_holds xs ys zs len n r new stay put =
+      let same : placed k (in_use n ys) (entry_of r) ≡ added k (in_use len xs) (entry_of r) = ap (λ es. placed k es (entry_of r)) stay.front ∙ sym (added_new (in_use len xs) (entry_of r) new) in
       record {
-        long = put .long ∙ stay .long;
-        count = put .count ∙ ap length same;
-        front = put .front ∙ same;
-        rest = put .rest ∙ drop-later n (n + 1) xs ys (omega arith) (stay .rest);
+        long = put.long ∙ stay.long;
+        count = put.count ∙ ap length same;
+        front = put.front ∙ same;
+        rest = put.rest ∙ drop_later n (n + 1) xs ys (omega arith) stay.rest;
       }
 
   -- where those that stay fill the slice, one more is too many
-  pub added-too-long : (es : List (Entry C T)) (x : Entry C T) (room : ℕ) → covered k es (x .cost) ≡ false → room ≤ length (unbeaten k es (x .cost)) → room < length (added k es x)
-  added-too-long es x room new le = omega (arith, ap length (added-new es x new), length-placed k (unbeaten k es (x .cost)) x)
+  pub added_too_long : (es : List (Entry C T)) (x : Entry C T) (room : ℕ) → covered k es x.cost ≡ false → room ≤ length (unbeaten k es x.cost) → room < length (added k es x)
+  added_too_long es x room new le = omega (arith, ap length (added_new es x new), length-placed k (unbeaten k es x.cost) x)
 
   unbeaten-few : (es : List (Entry C T)) (c : C) → length (unbeaten k es c) ≤ length es
   unbeaten-few [] c = omega arith
   unbeaten-few (e ∷ es) c =
       let rest = unbeaten-few es c in
-      elim (cases-bool (k .at-most c (e .cost))) [ inl h ↦ rw h (omega arith) | inr h ↦ rw h (omega arith) ]
+      elim (cases_Bool (k.at_most c e.cost)) [ inl h ↦ rw h (omega arith) | inr h ↦ rw h (omega arith) ]
 
   -- while a row is free, those that stay leave it free
-  pub stay-with-room : (xs : List (Row C T)) (len : ℕ) (c : C) → len < length xs → length (unbeaten k (in-use len xs) c) < length xs
-  stay-with-room xs len c free = omega (arith, unbeaten-few (in-use len xs) c, length-map (take len xs) entry-of, length-take len xs)
+  pub stay_with_room : (xs : List (Row C T)) (len : ℕ) (c : C) → len < length xs → length (unbeaten k (in_use len xs) c) < length xs
+  stay_with_room xs len c free = omega (arith, unbeaten-few (in_use len xs) c, length-map (take len xs) entry_of, length-take len xs)
 
-  pub added-few : (es : List (Entry C T)) (x : Entry C T) → covered k es (x .cost) ≡ false → length (added k es x) ≤ length es + 1
-  added-few es x new = omega (arith, ap length (added-new es x new), length-placed k (unbeaten k es (x .cost)) x, unbeaten-few es (x .cost))
+  pub added-few : (es : List (Entry C T)) (x : Entry C T) → covered k es x.cost ≡ false → length (added k es x) ≤ length es + 1
+  added-few es x new = omega (arith, ap length (added_new es x new), length-placed k (unbeaten k es x.cost) x, unbeaten-few es x.cost)

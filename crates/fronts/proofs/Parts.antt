@@ -1,26 +1,21 @@
 -- First parts and rests of lists.
 -- Assumes nothing.
-use mathlib.Core.Path.{_≡_, sym, ap, _∙_}
-use mathlib.Core.List.{List}
-use mathlib.Core.Logic.{inl, inr}
-use Prim.Native.Nat.{ℕ, _+_, _-_, _≤_, min}
-use native.Mathlib.Omega.{arith}
-use lib.ListN.{length, take, drop}
-use Rattle·std.proofs.shelf.Lists.{drop-drop, take-all}
-use Rattle·std.proofs.shelf.Tests.{cases-lt}
+use Rattle.std.proofs.Common.{◌≡◌, ℕ, ◌+◌, ◌-◌, ◌≤◌, min, List, length, take, drop, sym, ap, ◌∙◌, inl, inr, arith}
+use Rattle.std.proofs.lemmas.List.{drop-drop, take_all}
+use Rattle.std.proofs.lemmas.Bool.{cases_lt}
 
 module _ {X : Type 0} where
   -- a count that stops at the end of the list
-  pub take-min : (n m : ℕ) (xs : List X) → m ≡ min n (length xs) → take m xs ≡ take n xs
-  take-min n m xs e =
-      elim (cases-lt n (length xs)) [
+  pub take_min : (n m : ℕ) (xs : List X) → m ≡ min n (length xs) → take m xs ≡ take n xs
+  take_min n m xs e =
+      elim (cases_lt n (length xs)) [
         | inl lt ↦ let same : m ≡ n = omega arith in ap (λ j. take j xs) same
-        | inr le ↦ take-all m xs (omega arith) ∙ sym (take-all n xs le)
+        | inr le ↦ take_all m xs (omega arith) ∙ sym (take_all n xs le)
       ]
 
   -- lists with the same rest from n on have the same rest from each later place on
-  pub drop-later : (n m : ℕ) (xs ys : List X) → n ≤ m → drop n ys ≡ drop n xs → drop m ys ≡ drop m xs
-  drop-later n m xs ys le same =
+  pub drop_later : (n m : ℕ) (xs ys : List X) → n ≤ m → drop n ys ≡ drop n xs → drop m ys ≡ drop m xs
+  drop_later n m xs ys le same =
       let whole : n + (m - n) ≡ m = omega arith in
-      let from-n : drop (n + (m - n)) ys ≡ drop (n + (m - n)) xs = sym (drop-drop (m - n) n ys) ∙ ap (drop (m - n)) same ∙ drop-drop (m - n) n xs in
-      rw whole at from-n
+      let from_n : drop (n + (m - n)) ys ≡ drop (n + (m - n)) xs = sym (drop-drop (m - n) n ys) ∙ ap (drop (m - n)) same ∙ drop-drop (m - n) n xs in
+      rw whole at from_n

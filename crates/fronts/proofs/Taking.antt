@@ -1,37 +1,32 @@
 -- Rows taken one by one into a list: it holds the front of those taken so far.
 -- Assumes nothing.
-use mathlib.Core.Path.{_≡_, refl, sym, ap, _∙_}
-use mathlib.Core.List.{List}
-use mathlib.Core.Logic.{inl, inr}
-use Prim.Native.Nat.{ℕ, _+_, _<_, _≤_, min}
-use native.Mathlib.Omega.{arith}
-use lib.ListN.{length, take, drop, getD}
-use Rattle·std.proofs.shelf.Lists.{length-map, length-take, take-all}
-use Rattle·std.proofs.shelf.Tests.{cases-lt, cond-true}
-use Rattle·rules.specs.Kinds.{Kind, Laws}
-use Rattle·rules.specs.Fronts.{covered, added, front-of}
-use Rattle·rules.proofs.Fronts.{front-short}
-use Rattle·fronts·specs.declared.added.Added.{Added}
-use Rattle·fronts·specs.declared.added.Added.the-variants.{Covered, Listed, NoRow}
-use Rattle·fronts·specs.declared.row.Row.{Row}
-use Rattle·fronts·specs.Rows.{entry-of, entries, in-use}
-use Rattle·fronts·specs.Changes.{Adds}
-use Rattle·fronts·specs.Lists.{used-after-add}
-use Rattle·fronts·specs.Whole.{Fits, Whole, Outgrown}
-use Rattle·fronts·proofs.Parts.{take-min, drop-later}
-use Rattle·fronts·proofs.Additions.{added-few, holds-within}
-use Rattle·fronts·proofs.WholeFronts.{front-more, is-whole}
+use Rattle.std.proofs.Common.{◌≡◌, ℕ, ◌+◌, ◌<◌, ◌≤◌, min, List, length, get_or, take, drop, sym, refl, ap, ◌∙◌, inl, inr, arith}
+use Rattle.std.proofs.lemmas.List.{length-map, length-take, take_all}
+use Rattle.std.proofs.lemmas.Bool.{cases_lt, cond-true}
+use Rattle.rules.specs.Kinds.{Kind, Laws}
+use Rattle.rules.specs.Fronts.{covered, added, front_of}
+use Rattle.rules.proofs.Fronts.{front_short}
+use Rattle.fronts.specs.declared.added.Added.{Added}
+use Rattle.fronts.specs.declared.added.Added.TheVariants.{Covered, Listed, NoRow}
+use Rattle.fronts.specs.declared.row.Row.{Row}
+use Rattle.fronts.specs.Rows.{entry_of, entries, in_use}
+use Rattle.fronts.specs.Changes.{Adds}
+use Rattle.fronts.specs.Lists.{used_after_add}
+use Rattle.fronts.specs.Whole.{Fits, Whole, Outgrown}
+use Rattle.fronts.proofs.Parts.{take_min, drop_later}
+use Rattle.fronts.proofs.Additions.{added-few, holds_within}
+use Rattle.fronts.proofs.WholeFronts.{front_more, is_whole}
 
 module _ {C T : Type 0} (k : Kind C) (given : List (Row C T)) where
   -- after i rows: what is in use, that there was room all along, and what no front has reached
   pub record Taking (start rows : List (Row C T)) (len i : ℕ) : Type 0 where
     pub long : length rows ≡ length start
-    pub held : in-use len rows ≡ front-of k (in-use i given)
+    pub held : in_use len rows ≡ front_of k (in_use i given)
     pub fits : Fits k given (length start) i
     pub rest : (m : ℕ) → Fits k given m i → drop m rows ≡ drop m start
 
-  pub taking-none : (start : List (Row C T)) → Taking start start 0 0
-  taking-none start =
+  pub taking_none : (start : List (Row C T)) → Taking start start 0 0
+  taking_none start =
       record {
         long = refl;
         held = refl;
@@ -40,78 +35,78 @@ module _ {C T : Type 0} (k : Kind C) (given : List (Row C T)) where
       }
 
   -- the front of the first i + 1 rows, as one that was added to that of the first i
-  next-front : (rows : List (Row C T)) (len i : ℕ) (x : Row C T) → in-use len rows ≡ front-of k (in-use i given) → i < length given → x ≡ getD given i x →
-      front-of k (in-use (i + 1) given) ≡ added k (in-use len rows) (entry-of x)
-  next-front rows len i x held lt read =
-      front-more k given i x lt ∙ ap (λ r. added k (front-of k (in-use i given)) (entry-of r)) (sym read) ∙ ap (λ es. added k es (entry-of x)) (sym held)
+  next_front : (rows : List (Row C T)) (len i : ℕ) (x : Row C T) → in_use len rows ≡ front_of k (in_use i given) → i < length given → x ≡ get_or given i x →
+      front_of k (in_use (i + 1) given) ≡ added k (in_use len rows) (entry_of x)
+  next_front rows len i x held lt read =
+      front_more k given i x lt ∙ ap (λ r. added k (front_of k (in_use i given)) (entry_of r)) (sym read) ∙ ap (λ es. added k es (entry_of x)) (sym held)
 
-  fits-more : (room i : ℕ) → Fits k given room i → length (front-of k (in-use (i + 1) given)) ≤ room → Fits k given room (i + 1)
-  fits-more room i h last j le =
-      elim (cases-lt j (i + 1)) [
+  fits_more : (room i : ℕ) → Fits k given room i → length (front_of k (in_use (i + 1) given)) ≤ room → Fits k given room (i + 1)
+  fits_more room i h last j le =
+      elim (cases_lt j (i + 1)) [
         | inl lt ↦ h j (omega arith)
         | inr ge ↦ let same : j ≡ i + 1 = omega arith in rw same last
       ]
 
-  fits-less : (m i : ℕ) → Fits k given m (i + 1) → Fits k given m i
-  fits-less m i h j le = h j (omega arith)
+  fits_less : (m i : ℕ) → Fits k given m (i + 1) → Fits k given m i
+  fits_less m i h j le = h j (omega arith)
 
-  pub taking-more : (start rows rows′ : List (Row C T)) (len len′ i : ℕ) (x : Row C T) (a : Added) → Taking start rows len i → i < length given → x ≡ getD given i x →
-      Adds k (in-use len rows) (entry-of x) rows rows′ a → len′ ≡ used-after-add a len → (a ≡ NoRow → ⊥) → Taking start rows′ len′ (i + 1)
-  taking-more start rows rows′ len len′ i x Covered h lt read adds used room =
-      let next = next-front rows len i x (h .held) lt read in
-      let same : added k (in-use len rows) (entry-of x) ≡ in-use len rows = cond-true (covered k (in-use len rows) (x .cost)) _ _ (adds .0) in
-      let as-before : front-of k (in-use (i + 1) given) ≡ front-of k (in-use i given) = next ∙ same ∙ h .held in
+  pub taking_more : (start rows rows' : List (Row C T)) (len len' i : ℕ) (x : Row C T) (a : Added) → Taking start rows len i → i < length given → x ≡ get_or given i x →
+      Adds k (in_use len rows) (entry_of x) rows rows' a → len' ≡ used_after_add a len → (a ≡ NoRow → ⊥) → Taking start rows' len' (i + 1)
+  taking_more start rows rows' len len' i x Covered h lt read adds used room =
+      let next = next_front rows len i x h.held lt read in
+      let same : added k (in_use len rows) (entry_of x) ≡ in_use len rows = cond-true (covered k (in_use len rows) x.cost) _ _ adds.0 in
+      let as_before : front_of k (in_use (i + 1) given) ≡ front_of k (in_use i given) = next ∙ same ∙ h.held in
       record {
-        long = ap length (adds .1) ∙ h .long;
-        held = ap (λ n. in-use n rows′) used ∙ ap (in-use len) (adds .1) ∙ sym same ∙ sym next;
-        fits = fits-more (length start) i (h .fits) (rw as-before (h .fits i (omega arith)));
-        rest = λ m fits. ap (drop m) (adds .1) ∙ h .rest m (fits-less m i fits);
+        long = ap length adds.1 ∙ h.long;
+        held = ap (λ n. in_use n rows') used ∙ ap (in_use len) adds.1 ∙ sym same ∙ sym next;
+        fits = fits_more (length start) i h.fits (rw as_before (h.fits i (omega arith)));
+        rest = λ m fits. ap (drop m) adds.1 ∙ h.rest m (fits_less m i fits);
       }
-  taking-more start rows rows′ len len′ i x (Listed n) h lt read adds used room =
-      let next = next-front rows len i x (h .held) lt read in
-      let holds = adds .1 in
-      let counted : n ≡ length (front-of k (in-use (i + 1) given)) = holds .count ∙ ap length (sym next) in
-      let within = holds-within holds in
+  taking_more start rows rows' len len' i x (Listed n) h lt read adds used room =
+      let next = next_front rows len i x h.held lt read in
+      let holds = adds.1 in
+      let counted : n ≡ length (front_of k (in_use (i + 1) given)) = holds.count ∙ ap length (sym next) in
+      let within = holds_within holds in
       record {
-        long = holds .long ∙ h .long;
-        held = ap (λ j. in-use j rows′) used ∙ holds .front ∙ sym next;
-        fits = fits-more (length start) i (h .fits) (omega (arith, h .long, holds .long, within));
-        rest = λ m fits. drop-later n m rows rows′ (omega (arith, fits (i + 1) (omega arith))) (holds .rest) ∙ h .rest m (fits-less m i fits);
+        long = holds.long ∙ h.long;
+        held = ap (λ j. in_use j rows') used ∙ holds.front ∙ sym next;
+        fits = fits_more (length start) i h.fits (omega (arith, h.long, holds.long, within));
+        rest = λ m fits. drop_later n m rows rows' (omega (arith, fits (i + 1) (omega arith))) holds.rest ∙ h.rest m (fits_less m i fits);
       }
-  taking-more start rows rows′ len len′ i x NoRow h lt read adds used room = absurd (room refl)
+  taking_more start rows rows' len len' i x NoRow h lt read adds used room = absurd (room refl)
 
   -- a row finds no row left; last is what the slice then holds
-  pub taking-outgrown : Laws k → (start rows rows′ last : List (Row C T)) (len i : ℕ) (x : Row C T) → Taking start rows len i → i < length given → x ≡ getD given i x →
-      Adds k (in-use len rows) (entry-of x) rows rows′ NoRow → last ≡ rows′ → Outgrown k given last i
-  taking-outgrown laws start rows rows′ last len i x h lt read adds e =
-      let next = next-front rows len i x (h .held) lt read in
-      let es = in-use len rows in
-      let few : length (added k es (entry-of x)) ≤ length es + 1 = added-few k es (entry-of x) (adds .0) in
-      let used : length es ≡ min len (length rows) = length-map (take len rows) entry-of ∙ length-take len rows in
-      let all : length rows ≤ len = omega (arith, adds .1) in
-      let same : last ≡ rows = e ∙ adds .2 in
-      let long : length last ≡ length start = ap length same ∙ h .long in
-      let over : length last < length (front-of k (in-use (i + 1) given)) = omega (arith, ap length next, ap length same, adds .1) in
+  pub taking_outgrown : Laws k → (start rows rows' last : List (Row C T)) (len i : ℕ) (x : Row C T) → Taking start rows len i → i < length given → x ≡ get_or given i x →
+      Adds k (in_use len rows) (entry_of x) rows rows' NoRow → last ≡ rows' → Outgrown k given last i
+  taking_outgrown laws start rows rows' last len i x h lt read adds e =
+      let next = next_front rows len i x h.held lt read in
+      let es = in_use len rows in
+      let few : length (added k es (entry_of x)) ≤ length es + 1 = added-few k es (entry_of x) adds.0 in
+      let used : length es ≡ min len (length rows) = length-map (take len rows) entry_of ∙ length-take len rows in
+      let all : length rows ≤ len = omega (arith, adds.1) in
+      let same : last ≡ rows = e ∙ adds.2 in
+      let long : length last ≡ length start = ap length same ∙ h.long in
+      let over : length last < length (front_of k (in_use (i + 1) given)) = omega (arith, ap length next, ap length same, adds.1) in
       record {
-        held = ap entries (same ∙ sym (take-all len rows all)) ∙ h .held;
-        fits = rw long (h .fits);
+        held = ap entries (same ∙ sym (take_all len rows all)) ∙ h.held;
+        fits = rw long h.fits;
         next = over;
-        short = omega (arith, over, front-short k laws (in-use (i + 1) given), length-map (take (i + 1) given) entry-of, length-take (i + 1) given);
+        short = omega (arith, over, front_short k laws (in_use (i + 1) given), length-map (take (i + 1) given) entry_of, length-take (i + 1) given);
       }
 
   -- all rows are taken; last is what the slice then holds
-  pub taking-whole : Laws k → (old start rows last : List (Row C T)) (len n i : ℕ) → Taking start rows len i → i ≡ length given → n ≡ length (in-use len rows) → start ≡ old → last ≡ rows →
+  pub taking_whole : Laws k → (old start rows last : List (Row C T)) (len n i : ℕ) → Taking start rows len i → i ≡ length given → n ≡ length (in_use len rows) → start ≡ old → last ≡ rows →
       Whole k given old last n
-  taking-whole laws old start rows last len n i h done e begun same =
-      let all : in-use i given ≡ entries given = ap entries (take-all i given (omega arith)) in
-      let held : in-use len rows ≡ front-of k (entries given) = h .held ∙ ap (front-of k) all in
-      let used : n ≡ min len (length rows) = e ∙ length-map (take len rows) entry-of ∙ length-take len rows in
-      let front : in-use n last ≡ front-of k (entries given) = ap (in-use n) same ∙ ap entries (take-min len n rows used) ∙ held in
-      let long : length last ≡ length start = ap length same ∙ h .long in
+  taking_whole laws old start rows last len n i h done e begun same =
+      let all : in_use i given ≡ entries given = ap entries (take_all i given (omega arith)) in
+      let held : in_use len rows ≡ front_of k (entries given) = h.held ∙ ap (front_of k) all in
+      let used : n ≡ min len (length rows) = e ∙ length-map (take len rows) entry_of ∙ length-take len rows in
+      let front : in_use n last ≡ front_of k (entries given) = ap (in_use n) same ∙ ap entries (take_min len n rows used) ∙ held in
+      let long : length last ≡ length start = ap length same ∙ h.long in
       record {
         count = e ∙ ap length held;
         held = front;
-        front = rw front (is-whole k laws (entries given));
-        fits = rw (long, ← done) (h .fits);
-        rest = λ m fits. ap (drop m) same ∙ h .rest m (rw done fits) ∙ ap (drop m) begun;
+        front = rw front (is_whole k laws (entries given));
+        fits = rw (long, ← done) h.fits;
+        rest = λ m fits. ap (drop m) same ∙ h.rest m (rw done fits) ∙ ap (drop m) begun;
       }

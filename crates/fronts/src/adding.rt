@@ -1,17 +1,17 @@
-ghost use Rattle·fronts·specs.Rows.{entry-of, in-use};
-ghost use Rattle·fronts·specs.Changes.{Adds};
+ghost use Rattle.fronts.specs.Rows.{entry_of, in_use};
+ghost use Rattle.fronts.specs.Changes.{Adds};
+
 use crate::added::Added;
 use crate::covering::covers;
 use crate::inserting::put;
-use crate::removing::count_unbeaten;
-use crate::removing::remove_beaten;
+use crate::removing::{count_unbeaten, remove_beaten};
 use crate::row::Row;
 use costs::CostKind;
 
 // Adds a row to the front in the first `len` rows: nothing changes where one of them covers its cost; else those that its cost
 // is at most are removed and it stands at its place. Where those that stay fill the slice, nothing changes either.
 pub fn add<C: CostKind, T: Copy>(rows: &mut [Row<C, T>], len: usize, row: Row<C, T>) -> Added
-    ensures { λ r. ⌜ Adds (C·CostKind .kind) (in-use len (now (rows .entry))) (entry-of row) (now (rows .entry)) (now (rows .exit)) r ⌝ }
+    ensures { Adds C.CostKind.kind (in_use len rows.old) (entry_of row) rows.old rows.new result }
 {
     if covers(rows, len, row.cost) {
         return Added::Covered;

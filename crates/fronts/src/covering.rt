@@ -1,12 +1,13 @@
-ghost use mathlib.Core.Path.{_≡_};
-ghost use Rattle·rules.specs.Fronts.{covered};
-ghost use Rattle·fronts·specs.Rows.{in-use};
+ghost use Rattle.std.specs.Prelude.{◌≡◌};
+ghost use Rattle.rules.specs.Fronts.{covered};
+ghost use Rattle.fronts.specs.Rows.{in_use};
+
 use crate::row::Row;
 use costs::CostKind;
 
 // Whether one of the first `len` rows costs at most `cost`.
 pub fn covers<C: CostKind, T: Copy>(rows: &[Row<C, T>], len: usize, cost: C) -> bool
-    ensures { λ r. ⌜ r ≡ covered (C·CostKind .kind) (in-use len (now (rows .entry))) cost ⌝ }
+    ensures { result ≡ covered C.CostKind.kind (in_use len rows.now) cost }
 {
     let used = len.min(rows.len());
     for i in 0..used {

@@ -1,3 +1,5 @@
+#![tactic(auto)]
+
 mod added;
 mod adding;
 mod covering;
@@ -14,7 +16,6 @@ pub use adding::add;
 pub use covering::covers;
 pub use inserting::insert;
 pub use list::FrontList;
-pub use removing::count_unbeaten;
-pub use removing::remove_beaten;
+pub use removing::{count_unbeaten, remove_beaten};
 pub use row::Row;
 pub use whole::front_of;

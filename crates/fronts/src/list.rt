@@ -1,11 +1,9 @@
-ghost use mathlib.Core.Path.{_≡_};
-ghost use Prim.Native.Nat.{min};
-ghost use lib.ListN.{length};
-ghost use denote.Ref.{name};
-ghost use Rattle·rules.specs.Fronts.{covered, unbeaten, placed};
-ghost use Rattle·fronts·specs.Rows.{entry-of};
-ghost use Rattle·fronts·specs.Changes.{Holds, Written, Adds};
-ghost use Rattle·fronts·specs.Lists.{listed, used-after, used-after-add};
+ghost use Rattle.std.specs.Prelude.{◌≡◌, min, length};
+ghost use Rattle.rules.specs.Fronts.{covered, unbeaten, placed};
+ghost use Rattle.fronts.specs.Rows.{entry_of};
+ghost use Rattle.fronts.specs.Changes.{Holds, Written, Adds};
+ghost use Rattle.fronts.specs.Lists.{listed, used_after, used_after_add};
+
 use crate::added::Added;
 use crate::adding::add;
 use crate::covering::covers;
@@ -25,18 +23,18 @@ pub struct FrontList<'a, C, T> {
 impl<'a, C: CostKind, T: Copy> FrontList<'a, C, T> {
     // No row is in use.
     pub fn new(rows: &'a mut [Row<C, T>]) -> FrontList<'a, C, T>
-        ensures len { λ r. ⌜ r .len ≡ 0 ⌝ }
-        ensures rows { λ r. ⌜ now (r .rows) ≡ now (rows .entry) ⌝ }
-        ensures same { λ r. ⌜ name (r .rows) ≡ name (rows .entry) ⌝ }
+        ensures len { result.len ≡ 0 }
+        ensures rows { result.rows.now ≡ rows.old }
+        ensures same { result.rows.ghost_name ≡ rows.entry.ghost_name }
     {
         FrontList { rows, len: 0 }
     }
 
     // The first `len` rows are in use, or all where there are fewer.
     pub fn with_used(rows: &'a mut [Row<C, T>], len: usize) -> FrontList<'a, C, T>
-        ensures len { λ r. ⌜ r .len ≡ min len (length (now (rows .entry))) ⌝ }
-        ensures rows { λ r. ⌜ now (r .rows) ≡ now (rows .entry) ⌝ }
-        ensures same { λ r. ⌜ name (r .rows) ≡ name (rows .entry) ⌝ }
+        ensures len { result.len ≡ min len (length rows.old) }
+        ensures rows { result.rows.now ≡ rows.old }
+        ensures same { result.rows.ghost_name ≡ rows.entry.ghost_name }
     {
         let used = len.min(rows.len());
         FrontList { rows, len: used }
@@ -44,20 +42,20 @@ impl<'a, C: CostKind, T: Copy> FrontList<'a, C, T> {
 
     // How many rows are in use.
     pub fn used(&self) -> usize
-        ensures { λ r. ⌜ r ≡ length (listed (now (self .entry))) ⌝ }
+        ensures { result ≡ length (listed self.now) }
     {
         self.len.min(self.rows.len())
     }
 
     pub fn covers(&self, cost: C) -> bool
-        ensures { λ r. ⌜ r ≡ covered (C·CostKind .kind) (listed (now (self .entry))) cost ⌝ }
+        ensures { result ≡ covered C.CostKind.kind (listed self.now) cost }
     {
         covers(self.rows, self.len, cost)
     }
 
     pub fn remove_beaten(&mut self, cost: C)
-        ensures holds { λ _. ⌜ Holds (unbeaten (C·CostKind .kind) (listed (now (self .entry))) cost) (now (now (self .entry) .rows)) (now (now (self .exit) .rows)) (now (self .exit) .len) ⌝ }
-        ensures same { λ _. ⌜ name (now (self .exit) .rows) ≡ name (now (self .entry) .rows) ⌝ }
+        ensures holds { Holds (unbeaten C.CostKind.kind (listed self.old) cost) self.old.rows.now self.new.rows.now self.new.len }
+        ensures same { self.new.rows.ghost_name ≡ self.old.rows.ghost_name }
     {
         let len = self.len;
         self.len = remove_beaten(self.rows, len, cost);
@@ -65,9 +63,9 @@ impl<'a, C: CostKind, T: Copy> FrontList<'a, C, T> {
 
     // How many rows are in use then; none where the slice has no row left.
     pub fn insert(&mut self, row: Row<C, T>) -> Option<usize>
-        ensures holds { λ r. ⌜ Written (placed (C·CostKind .kind) (listed (now (self .entry))) (entry-of row)) (now (now (self .entry) .rows)) (now (now (self .exit) .rows)) r ⌝ }
-        ensures len { λ r. ⌜ now (self .exit) .len ≡ used-after r (now (self .entry) .len) ⌝ }
-        ensures same { λ _. ⌜ name (now (self .exit) .rows) ≡ name (now (self .entry) .rows) ⌝ }
+        ensures holds { Written (placed C.CostKind.kind (listed self.old) (entry_of row)) self.old.rows.now self.new.rows.now result }
+        ensures len { self.new.len ≡ used_after result self.old.len }
+        ensures same { self.new.rows.ghost_name ≡ self.old.rows.ghost_name }
     {
         let len = self.len;
         let answer = insert(self.rows, len, row);
@@ -78,9 +76,9 @@ impl<'a, C: CostKind, T: Copy> FrontList<'a, C, T> {
     }
 
     pub fn add(&mut self, row: Row<C, T>) -> Added
-        ensures holds { λ r. ⌜ Adds (C·CostKind .kind) (listed (now (self .entry))) (entry-of row) (now (now (self .entry) .rows)) (now (now (self .exit) .rows)) r ⌝ }
-        ensures len { λ r. ⌜ now (self .exit) .len ≡ used-after-add r (now (self .entry) .len) ⌝ }
-        ensures same { λ _. ⌜ name (now (self .exit) .rows) ≡ name (now (self .entry) .rows) ⌝ }
+        ensures holds { Adds C.CostKind.kind (listed self.old) (entry_of row) self.old.rows.now self.new.rows.now result }
+        ensures len { self.new.len ≡ used_after_add result self.old.len }
+        ensures same { self.new.rows.ghost_name ≡ self.old.rows.ghost_name }
     {
         let len = self.len;
         let answer = add(self.rows, len, row);

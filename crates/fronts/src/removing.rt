@@ -1,14 +1,14 @@
-ghost use mathlib.Core.Path.{_≡_};
-ghost use lib.ListN.{length};
-ghost use Rattle·rules.specs.Fronts.{unbeaten};
-ghost use Rattle·fronts·specs.Rows.{in-use};
-ghost use Rattle·fronts·specs.Changes.{Holds};
+ghost use Rattle.std.specs.Prelude.{◌≡◌, length};
+ghost use Rattle.rules.specs.Fronts.{unbeaten};
+ghost use Rattle.fronts.specs.Rows.{in_use};
+ghost use Rattle.fronts.specs.Changes.{Holds};
+
 use crate::row::Row;
 use costs::CostKind;
 
 // How many of the first `len` rows stay where those that `cost` is at most are removed.
 pub fn count_unbeaten<C: CostKind, T: Copy>(rows: &[Row<C, T>], len: usize, cost: C) -> usize
-    ensures { λ r. ⌜ r ≡ length (unbeaten (C·CostKind .kind) (in-use len (now (rows .entry))) cost) ⌝ }
+    ensures { result ≡ length (unbeaten C.CostKind.kind (in_use len rows.now) cost) }
 {
     let used = len.min(rows.len());
     let mut n = 0;
@@ -22,7 +22,7 @@ pub fn count_unbeaten<C: CostKind, T: Copy>(rows: &[Row<C, T>], len: usize, cost
 
 // Removes those of the first `len` rows that `cost` is at most, keeps the others in their order, and says how many those are.
 pub fn remove_beaten<C: CostKind, T: Copy>(rows: &mut [Row<C, T>], len: usize, cost: C) -> usize
-    ensures { λ r. ⌜ Holds (unbeaten (C·CostKind .kind) (in-use len (now (rows .entry))) cost) (now (rows .entry)) (now (rows .exit)) r ⌝ }
+    ensures { Holds (unbeaten C.CostKind.kind (in_use len rows.old) cost) rows.old rows.new result }
 {
     let used = len.min(rows.len());
     let mut n = 0;

@@ -1,4 +1,5 @@
-ghost use Rattle·fronts·specs.Whole.{Fronted};
+ghost use Rattle.fronts.specs.Whole.{Fronted};
+
 use crate::added::Added;
 use crate::list::FrontList;
 use crate::row::Row;
@@ -8,7 +9,7 @@ use costs::CostKind;
 // Where a row finds no row left, the answer is none.
 // Rows behind the front may hold rows that were listed for a time; those that no first part's front reaches are as they were.
 pub fn front_of<C: CostKind, T: Copy>(given: &[Row<C, T>], rows: &mut [Row<C, T>]) -> Option<usize>
-    ensures { λ r. ⌜ Fronted (C·CostKind .kind) (now (given .entry)) (now (rows .entry)) (now (rows .exit)) r ⌝ }
+    ensures { Fronted C.CostKind.kind given.now rows.old rows.new result }
 {
     let mut list = FrontList::new(rows);
     for i in 0..given.len() {

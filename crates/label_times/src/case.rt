@@ -1,9 +1,8 @@
 use crate::worded::Worded;
 use crate::words::Words;
-use carts::Cart;
-use carts::Constraint;
+use anyhow::anyhow;
+use carts::{Cart, Constraint};
 use std::alloc::Global;
-use std::error::AnyError;
 
 // What a case says after its floor: the tariff, the one cart, the horizon and the constraints on the cart.
 #[derive(Drop)]
@@ -14,7 +13,7 @@ pub struct Case<C: Drop> {
     pub constraints: Vec<Constraint>,
 }
 
-fn read_tariff<C: Worded>(heap: Global, words: &mut Words<'_>) -> Result<Vec<C>, AnyError> {
+fn read_tariff<C: Worded>(heap: Global, words: &mut Words<'_>) -> anyhow::Result<Vec<C>> {
     words.pass("tariff")?;
     let count = words.number::<u16>()?;
     let mut tariff = Vec::new(heap);
@@ -24,14 +23,14 @@ fn read_tariff<C: Worded>(heap: Global, words: &mut Words<'_>) -> Result<Vec<C>,
     Ok(tariff)
 }
 
-fn read_cart(words: &mut Words<'_>) -> Result<Cart, AnyError> {
+fn read_cart(words: &mut Words<'_>) -> anyhow::Result<Cart> {
     words.pass("cart")?;
     let start = words.number::<u8>()?;
     let goal = words.number::<u8>()?;
     Ok(Cart { start, goal })
 }
 
-fn read_constraint(words: &mut Words<'_>) -> Result<Constraint, AnyError> {
+fn read_constraint(words: &mut Words<'_>) -> anyhow::Result<Constraint> {
     match words.word()? {
         "v" => {
             let place = words.number::<u8>()?;
@@ -53,11 +52,11 @@ fn read_constraint(words: &mut Words<'_>) -> Result<Constraint, AnyError> {
                 tick,
             })
         }
-        _ => Err("a constraint begins with neither v nor e".into()),
+        _ => Err(anyhow!("a constraint begins with neither v nor e")),
     }
 }
 
-fn read_constraints(heap: Global, words: &mut Words<'_>) -> Result<Vec<Constraint>, AnyError> {
+fn read_constraints(heap: Global, words: &mut Words<'_>) -> anyhow::Result<Vec<Constraint>> {
     words.pass("constraints")?;
     let count = words.number::<u16>()?;
     let mut constraints = Vec::new(heap);
@@ -67,10 +66,7 @@ fn read_constraints(heap: Global, words: &mut Words<'_>) -> Result<Vec<Constrain
     Ok(constraints)
 }
 
-pub(crate) fn read_case<C: Worded>(
-    heap: Global,
-    words: &mut Words<'_>,
-) -> Result<Case<C>, AnyError> {
+pub(crate) fn read_case<C: Worded>(heap: Global, words: &mut Words<'_>) -> anyhow::Result<Case<C>> {
     let tariff = read_tariff::<C>(heap, words)?;
     let carts = [read_cart(words)?];
     words.pass("horizon")?;

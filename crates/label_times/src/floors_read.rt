@@ -1,13 +1,10 @@
 use crate::words::Words;
-use floors::FloorRefusal;
-use floors::GridFloor;
-use floors::LaneFloor;
-use floors::LaneRow;
+use anyhow::anyhow;
+use floors::{FloorRefusal, GridFloor, LaneFloor, LaneRow};
 use std::alloc::Global;
-use std::error::AnyError;
 
 // A grid: its width and height, and then its cells.
-pub(crate) fn read_grid(heap: Global, words: &mut Words<'_>) -> Result<GridFloor, AnyError> {
+pub(crate) fn read_grid(heap: Global, words: &mut Words<'_>) -> anyhow::Result<GridFloor> {
     let width = words.number::<u8>()? as usize;
     let height = words.number::<u8>()? as usize;
     let mut cells = Vec::new(heap);
@@ -16,27 +13,28 @@ pub(crate) fn read_grid(heap: Global, words: &mut Words<'_>) -> Result<GridFloor
     }
     match GridFloor::new(width, height, cells.as_slice()) {
         Ok(floor) => Ok(floor),
-        Err(_) => Err("the grid has not 1 to 128 cells".into()),
+        Err(_) => Err(anyhow!("the grid has not 1 to 128 cells")),
     }
 }
 
-fn read_lane(words: &mut Words<'_>) -> Result<LaneRow, AnyError> {
+fn read_lane(words: &mut Words<'_>) -> anyhow::Result<LaneRow> {
     let from = words.number::<u16>()?;
     let to = words.number::<u16>()?;
     let line = words.number::<u16>()?;
     Ok(LaneRow { from, to, line })
 }
 
-fn lanes_refused(refusal: FloorRefusal) -> AnyError {
+fn lanes_refused(refusal: FloorRefusal) -> anyhow::Error {
     match refusal {
-        FloorRefusal::BadSize => "the floor has not 1 to 128 places".into(),
-        FloorRefusal::BadRow(_) =>
-            "a lane names an absent place, or is the ninth of its place".into(),
+        FloorRefusal::BadSize => anyhow!("the floor has not 1 to 128 places"),
+        FloorRefusal::BadRow(_) => anyhow!(
+            "a lane names an absent place, or is the ninth of its place"
+        ),
     }
 }
 
 // A floor of lanes: the number of its places, the number of its lanes, and then the lanes.
-pub(crate) fn read_lanes(words: &mut Words<'_>) -> Result<LaneFloor, AnyError> {
+pub(crate) fn read_lanes(words: &mut Words<'_>) -> anyhow::Result<LaneFloor> {
     let places = words.number::<u16>()?;
     let count = words.number::<u16>()?;
     let mut floor = match LaneFloor::empty(places) {

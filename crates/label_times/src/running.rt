@@ -1,24 +1,15 @@
 use crate::case::read_case;
-use crate::floors_read::read_grid;
-use crate::floors_read::read_lanes;
+use crate::floors_read::{read_grid, read_lanes};
 use crate::printing::print_answer;
 use crate::timing::best_time;
 use crate::worded::Worded;
 use crate::words::Words;
-use carts::ByItself;
+use anyhow::anyhow;
 use costs::CostKind;
-use floors::Floor;
-use floors::GridFloor;
-use floors::GridFloorFloor;
-use floors::LaneFloor;
-use floors::LaneFloorFloor;
+use floors::{Floor, GridFloor, LaneFloor};
 use fronts::Row;
-use labels::Hop;
-use labels::LabelRow;
-use labels::Query;
-use std::alloc::AllocError;
-use std::alloc::Global;
-use std::error::AnyError;
+use labels::{Hop, LabelRow, Query};
+use std::alloc::{AllocError, Global};
 
 const ROWS: usize = 65535;
 
@@ -39,11 +30,11 @@ fn make_rows<C: CostKind>(heap: Global) -> Result<Vec<LabelRow<C>>, AllocError> 
 
 // Runs the rest of a case on its floor.
 fn run_on<F: Floor, C: Worded>(
-    rt: &LibcRuntime,
+    rt: &HostRuntime,
     floor: &F,
     repeats: u16,
     words: &mut Words<'_>,
-) -> Result<(), AnyError> {
+) -> anyhow::Result<()> {
     let case = read_case::<C>(rt.alloc(), words)?;
     let query = Query {
         floor,
@@ -55,12 +46,12 @@ fn run_on<F: Floor, C: Worded>(
     };
     let mut rows = make_rows::<C>(rt.alloc())?;
     let best = best_time(rt, &query, rows.as_mut_slice(), repeats)?;
-    eprintln!(rt, "best of {repeats}, in nanoseconds: {best}")?;
+    eprintln!(rt; "best of {repeats}, in nanoseconds: {best}")?;
     print_answer(rt, &query, rows.as_mut_slice())
 }
 
 // Runs a case of one kind of cost: how often, then the floor and what follows.
-pub(crate) fn run_case<C: Worded>(rt: &LibcRuntime, words: &mut Words<'_>) -> Result<(), AnyError> {
+pub(crate) fn run_case<C: Worded>(rt: &HostRuntime, words: &mut Words<'_>) -> anyhow::Result<()> {
     let repeats = words.number::<u16>()?;
     match words.word()? {
         "grid" => {
@@ -71,6 +62,6 @@ pub(crate) fn run_case<C: Worded>(rt: &LibcRuntime, words: &mut Words<'_>) -> Re
             let floor = read_lanes(words)?;
             run_on::<LaneFloor, C>(rt, &floor, repeats, words)
         }
-        _ => Err("the floor is neither a grid nor lanes".into()),
+        _ => Err(anyhow!("the floor is neither a grid nor lanes")),
     }
 }

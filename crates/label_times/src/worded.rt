@@ -1,26 +1,13 @@
 use crate::words::Words;
-use costs::CostKind;
-use costs::Pair;
-use costs::PairKind;
-use costs::PairText;
-use costs::Total;
-use costs::TotalKind;
-use costs::TotalText;
-use costs::Worst;
-use costs::WorstKind;
-use costs::WorstText;
-use costs::Zones;
-use costs::ZonesKind;
-use costs::ZonesText;
-use std::error::AnyError;
+use costs::{CostKind, Pair, Total, Worst, Zones};
 
 // A kind of cost that a case can name: a tariff line is read from words.
 pub trait Worded: CostKind {
-    fn read(words: &mut Words<'_>) -> Result<Self, AnyError>;
+    fn read(words: &mut Words<'_>) -> anyhow::Result<Self>;
 }
 
-pub impl Worded for Pair<Total, Worst> as PairWorded {
-    fn read(words: &mut Words<'_>) -> Result<Pair<Total, Worst>, AnyError> {
+impl Worded for Pair<Total, Worst> {
+    fn read(words: &mut Words<'_>) -> anyhow::Result<Pair<Total, Worst>> {
         let total = words.number::<u32>()?;
         let worst = words.number::<u16>()?;
         Ok(Pair {
@@ -30,8 +17,8 @@ pub impl Worded for Pair<Total, Worst> as PairWorded {
     }
 }
 
-pub impl Worded for Zones as ZonesWorded {
-    fn read(words: &mut Words<'_>) -> Result<Zones, AnyError> {
+impl Worded for Zones {
+    fn read(words: &mut Words<'_>) -> anyhow::Result<Zones> {
         let bits = words.number::<u64>()?;
         Ok(Zones { bits })
     }

@@ -1,6 +1,5 @@
-use std::error::AnyError;
-use std::str::FromStr;
-use std::str::SplitWhitespace;
+use anyhow::anyhow;
+use std::str::{FromStr, SplitWhitespace};
 
 // The words of a case that are still to be read.
 #[derive(Drop)]
@@ -15,29 +14,29 @@ impl<'a> Words<'a> {
         }
     }
 
-    pub(crate) fn word(&mut self) -> Result<&'a str, AnyError> {
+    pub(crate) fn word(&mut self) -> anyhow::Result<&'a str> {
         match self.rest.next() {
             Some(word) => Ok(word),
-            None => Err("the case ends early".into()),
+            None => Err(anyhow!("the case ends early")),
         }
     }
 
-    pub(crate) fn number<N: FromStr>(&mut self) -> Result<N, AnyError>
+    pub(crate) fn number<N: FromStr>(&mut self) -> anyhow::Result<N>
     where
         N::Err: Drop,
     {
         match self.word()?.parse::<N>() {
             Ok(number) => Ok(number),
-            Err(_) => Err("a word is not a number of its size".into()),
+            Err(_) => Err(anyhow!("a word is not a number of its size")),
         }
     }
 
     // Goes past a word that has to stand here.
-    pub(crate) fn pass(&mut self, word: &str) -> Result<(), AnyError> {
+    pub(crate) fn pass(&mut self, word: &str) -> anyhow::Result<()> {
         if self.word()? == word {
             Ok(())
         } else {
-            Err("a word of the case is not the one that belongs there".into())
+            Err(anyhow!("a word of the case is not the one that belongs there"))
         }
     }
 }

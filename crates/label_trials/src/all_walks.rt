@@ -1,13 +1,9 @@
-use crate::beginning::Beginning;
-use crate::beginning::MOST_TICKS;
-use crate::beginning::follow;
-use crate::beginning::keeps;
+use crate::beginning::{Beginning, MOST_TICKS, follow, keeps};
 use carts::Constraint;
 use costs::CostKind;
 use floors::Floor;
 use labels::Query;
-use std::alloc::AllocError;
-use std::alloc::Global;
+use std::alloc::{AllocError, Global};
 
 // No place of a trial has more moves.
 const MOST_MOVES: u16 = 5;

@@ -1,23 +1,11 @@
-use crate::all_walks::all_beginnings;
-use crate::all_walks::walks_of;
-use crate::beginning::Beginning;
-use crate::beginning::MOST_TICKS;
-use crate::costs_kept::contains;
-use crate::costs_kept::same_cost;
-use crate::costs_kept::undominated;
-use carts::ByItself;
-use carts::Cart;
-use carts::Constraint;
+use crate::all_walks::{all_beginnings, walks_of};
+use crate::beginning::{Beginning, MOST_TICKS};
+use crate::costs_kept::{contains, same_cost, undominated};
+use carts::{Cart, Constraint};
 use costs::CostKind;
 use floors::Floor;
-use labels::LabelRefusal;
-use labels::LabelRow;
-use labels::Query;
-use labels::count_labels;
-use labels::count_offers;
-use labels::take_offer;
-use std::alloc::AllocError;
-use std::alloc::Global;
+use labels::{LabelRefusal, LabelRow, Query, count_labels, count_offers, take_offer};
+use std::alloc::{AllocError, Global};
 
 // The beginnings of `count` moves that end at a place.
 fn reaching<C: CostKind>(

@@ -1,7 +1,6 @@
 use crate::beginning::Beginning;
 use costs::CostKind;
-use std::alloc::AllocError;
-use std::alloc::Global;
+use std::alloc::{AllocError, Global};
 
 pub(crate) fn same_cost<C: CostKind>(a: C, b: C) -> bool {
     a.at_most(b) && b.at_most(a)

@@ -1,17 +1,5 @@
 use crate::numbers::Numbers;
-use costs::CostKind;
-use costs::Pair;
-use costs::PairKind;
-use costs::PairText;
-use costs::Total;
-use costs::TotalKind;
-use costs::TotalText;
-use costs::Worst;
-use costs::WorstKind;
-use costs::WorstText;
-use costs::Zones;
-use costs::ZonesKind;
-use costs::ZonesText;
+use costs::{CostKind, Pair, Total, Worst, Zones};
 
 // A kind of cost whose tariff lines can be made from numbers. They are few, so that walks of equal costs occur; the cheaper a line of costs, the larger
 // its strain, so that a cart has several offers.
@@ -19,7 +7,7 @@ pub trait Generated: CostKind {
     fn generate(numbers: &mut Numbers) -> Self;
 }
 
-pub impl Generated for Pair<Total, Worst> as PairGenerated {
+impl Generated for Pair<Total, Worst> {
     fn generate(numbers: &mut Numbers) -> Pair<Total, Worst> {
         let total = numbers.below(4);
         let worst = 4 - total + numbers.below(2);
@@ -35,7 +23,7 @@ pub impl Generated for Pair<Total, Worst> as PairGenerated {
 }
 
 // Up to three of the zones 0 to 2, and zone 63.
-pub impl Generated for Zones as ZonesGenerated {
+impl Generated for Zones {
     fn generate(numbers: &mut Numbers) -> Zones {
         let low = numbers.below(8) as u64;
         if numbers.below(4) == 0 {

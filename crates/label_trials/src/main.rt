@@ -1,21 +1,8 @@
+#![tactic(auto)]
+
 // Runs the label search on many small floors beside a search that tries every walk, and prints how often the two agree.
-use crate::generated::PairGenerated;
-use crate::generated::ZonesGenerated;
-use crate::settings::TRIALS;
-use crate::settings::run_setting;
-use costs::Pair;
-use costs::PairKind;
-use costs::PairText;
-use costs::Total;
-use costs::TotalKind;
-use costs::TotalText;
-use costs::Worst;
-use costs::WorstKind;
-use costs::WorstText;
-use costs::Zones;
-use costs::ZonesKind;
-use costs::ZonesText;
-use std::error::AnyError;
+use crate::settings::{TRIALS, run_setting};
+use costs::{Pair, Total, Worst, Zones};
 
 mod all_walks;
 mod beginning;
@@ -27,7 +14,7 @@ mod numbers;
 mod settings;
 mod trial;
 
-fn run(rt: &LibcRuntime) -> Result<(), AnyError> {
+fn run(rt: &HostRuntime) -> anyhow::Result<()> {
     let costs = run_setting::<Pair<Total, Worst>>(rt, "costs without constraints", 0)? as u32;
     let costs_constrained = run_setting::<Pair<Total, Worst>>(
         rt,
@@ -38,10 +25,10 @@ fn run(rt: &LibcRuntime) -> Result<(), AnyError> {
     let zones_constrained = run_setting::<Zones>(rt, "zones with constraints", 8)? as u32;
     let agreed = costs + costs_constrained + zones + zones_constrained;
     let trials = 4 * TRIALS;
-    println!(rt, "all settings: {agreed} of {trials} agree")?;
+    println!(rt; "all settings: {agreed} of {trials} agree")?;
     Ok(())
 }
 
-fn main(rt: LibcRuntime) -> Result<(), AnyError> {
-    rt.report(run(&rt))
+fn main(rt: HostRuntime) -> anyhow::Result<()> {
+    run(&rt)
 }

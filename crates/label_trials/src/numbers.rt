@@ -1,4 +1,4 @@
-ghost use Prim.Native.Nat.{_-_, _≤_};
+ghost use Rattle.std.specs.Prelude.{◌-◌, ◌≤◌};
 
 // Numbers that look random and are the same on every run.
 #[derive(Drop)]
@@ -13,9 +13,10 @@ impl Numbers {
 
     // A number below `n`, or 0 where nothing is.
     pub(crate) fn below(&mut self, n: u8) -> u8
-        ensures { λ r. ⌜ r ≤ n - 1 ⌝ }
+        ensures { result ≤ n - 1 }
     {
-        self.state = self.state
+        self.state = self
+            .state
             .wrapping_mul(6364136223846793005)
             .wrapping_add(1442695040888963407);
         let high = ((self.state >> 56) & 0xff) as u8;

@@ -1,20 +1,13 @@
 use crate::comparing::compare;
-use crate::floors_made::make_grid;
-use crate::floors_made::make_lanes;
+use crate::floors_made::{make_grid, make_lanes};
 use crate::generated::Generated;
 use crate::numbers::Numbers;
 use crate::trial::make_trial;
 use costs::CostKind;
 use floors::Floor;
-use floors::GridFloorFloor;
-use floors::LaneFloorFloor;
 use fronts::Row;
-use labels::Hop;
-use labels::LabelRow;
-use labels::Query;
-use std::alloc::AllocError;
-use std::alloc::Global;
-use std::error::AnyError;
+use labels::{Hop, LabelRow, Query};
+use std::alloc::{AllocError, Global};
 
 // How many trials a setting has.
 pub const TRIALS: u16 = 2000;
@@ -43,7 +36,7 @@ fn run_trial<F: Floor, C: Generated>(
     floor: &F,
     most: u8,
     rows: &mut [LabelRow<C>],
-) -> Result<Option<u16>, AnyError> {
+) -> anyhow::Result<Option<u16>> {
     let trial = make_trial::<F, C>(heap, numbers, floor, most)?;
     let query = Query {
         floor,
@@ -63,7 +56,7 @@ fn run_numbered<C: Generated>(
     number: u16,
     most: u8,
     rows: &mut [LabelRow<C>],
-) -> Result<Option<u16>, AnyError> {
+) -> anyhow::Result<Option<u16>> {
     if number % 2 == 0 {
         let floor = make_grid(heap, numbers)?;
         run_trial(heap, numbers, &floor, most, rows)
@@ -75,10 +68,10 @@ fn run_numbered<C: Generated>(
 
 // Runs all trials of a kind of cost with at most so many constraints, prints how many agree and how many offers those have, and says how many agree.
 pub(crate) fn run_setting<C: Generated>(
-    rt: &LibcRuntime,
+    rt: &HostRuntime,
     name: &str,
     most: u8,
-) -> Result<u16, AnyError> {
+) -> anyhow::Result<u16> {
     let heap = rt.alloc();
     let mut numbers = Numbers::new(1);
     let mut rows = make_rows::<C>(heap)?;
@@ -96,9 +89,6 @@ pub(crate) fn run_setting<C: Generated>(
             offers = offers.saturating_add(count as u32);
         }
     }
-    println!(
-        rt,
-        "{name}: {agreed} of {TRIALS} agree, with {offers} offers"
-    )?;
+    println!(rt; "{name}: {agreed} of {TRIALS} agree, with {offers} offers")?;
     Ok(agreed)
 }

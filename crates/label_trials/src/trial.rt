@@ -1,11 +1,9 @@
 use crate::floors_made::LINES;
 use crate::generated::Generated;
 use crate::numbers::Numbers;
-use carts::Cart;
-use carts::Constraint;
+use carts::{Cart, Constraint};
 use floors::Floor;
-use std::alloc::AllocError;
-use std::alloc::Global;
+use std::alloc::{AllocError, Global};
 
 // A trial besides its floor: two carts, and which of them is searched for.
 #[derive(Drop)]

@@ -1,165 +1,159 @@
 -- The labels that arrive: from which tick on the cart may stand at its goal, and where those labels stand in the tables.
 -- Assumes nothing.
-use mathlib.Core.Path.{_≡_, refl, sym, ap, subst, _∙_}
-use mathlib.Core.Bool.{true, false, not}
-use mathlib.Core.List.{List, [], _∷_, _++_, map}
-use mathlib.Core.Logic.{_⊎_, inl, inr}
-use Prim.Native.Nat.{ℕ, zero, suc, _+_, _-_, _*_, _<_, _≤_}
-use native.Mathlib.Omega.{arith}
-use lib.ListN.{length, take, getD}
-use Rattle·std.specs.Iters.{counting}
-use Rattle·std.proofs.shelf.Tests.{cases-bool, cases-lt, both-ways, leb-true, le-leb, lt-leb, cond-true, cond-false, cond-both}
-use Rattle·std.proofs.shelf.Lists.{length-take-le, length-append, length-map}
-use Rattle·rules.specs.Kinds.{Laws}
-use Rattle·rules.specs.Instances.{goal-of}
-use Rattle·rules.specs.Offers.{Label, joined-lists, total-length, may-stand, kept, arrivals}
-use Rattle·rules.proofs.Fronts.{front-short}
-use Rattle·rules.proofs.Satisfying.{stands-at, stands-from}
-use Rattle·rules.proofs.Offers.{arriving}
-use Rattle·labels·specs.declared.landing.Landing.{Landing}
-use Rattle·charts.specs.declared.chart.Chart.{Chart}
-use Rattle·labels·specs.Arrivals.{StandsFrom, LandingOf}
-use Rattle·labels·specs.Charting.{Charted}
-use Rattle·labels·specs.Landings.{Lands, cell-of, run-of, standing, landed}
-use Rattle·charts.specs.Parts.{Part}
-use Rattle·labels·specs.Queries.{Asked, row-of, place-count, may-be-at, label-total, offers-of}
-use Rattle·labels·specs.Rows.{LabelRow, shown}
-use Rattle·labels·specs.Tables.{Hold, all-cells, cells-before}
-use Rattle·charts.proofs.Parts.{total-append}
-use Rattle·labels·proofs.Showing.{length-shown}
-use Rattle·labels·proofs.Tabling.{length-cells, table-room, tick-run}
+use Rattle.std.proofs.Common.{◌≡◌, ℕ, zero, suc, ◌+◌, ◌-◌, ◌*◌, ◌<◌, ◌≤◌, true, false, not, ◌⊎◌, List, [], ◌∷◌, ◌++◌, map, length, get_or, take, sym, refl, ap, ◌∙◌, subst, inl, inr, arith}
+use Rattle.std.specs.List.{range_with_len}
+use Rattle.std.proofs.lemmas.Bool.{cases_Bool, cases_lt, both_ways, leb-true, le-leb, lt-leb, cond-true, cond-false, cond_both}
+use Rattle.std.proofs.lemmas.List.{length-take-le, length-append, length-map}
+use Rattle.rules.specs.Kinds.{Laws}
+use Rattle.rules.specs.Instances.{goal_of}
+use Rattle.rules.specs.Offers.{Label, joined_lists, total_length, may_stand, kept, arrivals}
+use Rattle.rules.proofs.Fronts.{front_short}
+use Rattle.rules.proofs.Satisfying.{stands_at, stands_from}
+use Rattle.rules.proofs.Offers.{arriving}
+use Rattle.labels.specs.declared.landing.Landing.{Landing}
+use Rattle.charts.specs.declared.chart.Chart.{Chart}
+use Rattle.labels.specs.Arrivals.{StandsFrom, LandingOf}
+use Rattle.labels.specs.Charting.{Charted}
+use Rattle.labels.specs.Landings.{Lands, cell_of, run_of, standing, landed}
+use Rattle.charts.specs.Parts.{Part}
+use Rattle.labels.specs.Queries.{Asked, row_of, place_count, may_be_at, label_total, offers_of}
+use Rattle.labels.specs.Rows.{LabelRow, shown}
+use Rattle.labels.specs.Tables.{Hold, all_cells, cells_before}
+use Rattle.charts.proofs.Parts.{total_append}
+use Rattle.labels.proofs.Showing.{length-shown}
+use Rattle.labels.proofs.Tabling.{length_cells, table_room, tick_run}
 
 module _ {C : Type 0} (a : Asked C) where
   -- the tick after which the cart may be at its goal, where it may not be there at that tick
-  pub stands : (r : ℕ) → r ≤ a .inst .horizon → ((s : ℕ) → r < s → s ≤ a .inst .horizon → may-be-at a (goal-of (a .inst) (a .cart)) s ≡ true) → (r ≡ 0) ⊎ (may-be-at a (goal-of (a .inst) (a .cart)) r ≡ false) → StandsFrom a r
-  stands r in-time after before = λ t le.
-      let h = a .inst .horizon in
-      let may = may-stand (a .inst) (a .cart) (a .constraints) t (h - t) in
-      elim (cases-lt t r) [
-        | inl lt ↦ elim (cases-bool may) [
-          | inl yes′ ↦ elim before [
+  pub stands : (r : ℕ) → r ≤ a.inst.horizon → ((s : ℕ) → r < s → s ≤ a.inst.horizon → may_be_at a (goal_of a.inst a.cart) s ≡ true) → (r ≡ 0) ⊎ (may_be_at a (goal_of a.inst a.cart) r ≡ false) → StandsFrom a r
+  stands r in_time after before = λ t le.
+      let h = a.inst.horizon in
+      let may = may_stand a.inst a.cart a.constraints t (h - t) in
+      elim (cases_lt t r) [
+        | inl lt ↦ elim (cases_Bool may) [
+          | inl yes' ↦ elim before [
             | inl none ↦ absurd (omega arith)
-            | inr not′ ↦ absurd (both-ways _ not′ (stands-at (a .inst) (a .cart) (a .constraints) t (h - t) yes′ r lt (omega arith)))
+            | inr not' ↦ absurd (both_ways _ not' (stands_at a.inst a.cart a.constraints t (h - t) yes' r lt (omega arith)))
           ]
-          | inr no′ ↦ no′ ∙ sym (lt-leb r t lt)
+          | inr no' ↦ no' ∙ sym (lt-leb r t lt)
         ]
-        | inr ge ↦ stands-from (a .inst) (a .cart) (a .constraints) t (h - t) (λ s l u. after s (omega arith) (omega arith)) ∙ sym (le-leb r t ge)
+        | inr ge ↦ stands_from a.inst a.cart a.constraints t (h - t) (λ s l u. after s (omega arith) (omega arith)) ∙ sym (le-leb r t ge)
       ]
 
   -- whether the cart may be at its goal, by the number of the goal's cell
-  pub goal-charted : (chart : Chart) → Charted a chart → (t places goal : ℕ) → t ≤ 64 → places ≡ place-count a → goal-of (a .inst) (a .cart) ≡ goal → goal-of (a .inst) (a .cart) < place-count a → may-be-at a (goal-of (a .inst) (a .cart)) t ≡ not (getD (chart .shut) (t * places + goal) false)
-  goal-charted chart charted t places goal le size at lt =
-      charted .shut t (goal-of (a .inst) (a .cart)) le lt
-      ∙ ap (λ n. not (getD (chart .shut) (t * n + goal-of (a .inst) (a .cart)) false)) (sym size)
-      ∙ ap (λ g. not (getD (chart .shut) (t * places + g) false)) at
+  pub goal_charted : (chart : Chart) → Charted a chart → (t places goal : ℕ) → t ≤ 64 → places ≡ place_count a → goal_of a.inst a.cart ≡ goal → goal_of a.inst a.cart < place_count a → may_be_at a (goal_of a.inst a.cart) t ≡ not (get_or chart.shut (t * places + goal) false)
+  goal_charted chart charted t places goal le size at lt =
+      charted.shut t (goal_of a.inst a.cart) le lt
+      ∙ ap (λ n. not (get_or chart.shut (t * n + goal_of a.inst a.cart) false)) (sym size)
+      ∙ ap (λ g. not (get_or chart.shut (t * places + g) false)) at
 
   -- one tick less
-  pub stands-more : (tick g : ℕ) → 0 < tick → g ≡ goal-of (a .inst) (a .cart) → may-be-at a g tick ≡ true → ((s : ℕ) → tick < s → s ≤ a .inst .horizon → may-be-at a (goal-of (a .inst) (a .cart)) s ≡ true) → (s : ℕ) → tick - 1 < s → s ≤ a .inst .horizon → may-be-at a (goal-of (a .inst) (a .cart)) s ≡ true
-  stands-more tick g some e may after s lt le = elim (cases-lt tick s) [
+  pub stands_more : (tick g : ℕ) → 0 < tick → g ≡ goal_of a.inst a.cart → may_be_at a g tick ≡ true → ((s : ℕ) → tick < s → s ≤ a.inst.horizon → may_be_at a (goal_of a.inst a.cart) s ≡ true) → (s : ℕ) → tick - 1 < s → s ≤ a.inst.horizon → may_be_at a (goal_of a.inst a.cart) s ≡ true
+  stands_more tick g some e may after s lt le = elim (cases_lt tick s) [
     | inl later ↦ after s later le
-    | inr here ↦ let same : tick ≡ s = omega arith in ap (λ p. may-be-at a p s) (sym e) ∙ ap (may-be-at a g) (sym same) ∙ may
+    | inr here ↦ let same : tick ≡ s = omega arith in ap (λ p. may_be_at a p s) (sym e) ∙ ap (may_be_at a g) (sym same) ∙ may
   ]
 
 -- joined lists, where the first are empty, and where each is the same
 module _ {X : Type 0} where
-  skip-empty : (f : ℕ → List X) (from d n : ℕ) → ((t : ℕ) → from ≤ t → t < from + d → f t ≡ []) → joined-lists (map f (counting from (d + n))) ≡ joined-lists (map f (counting (from + d) n))
-  skip-empty f from zero n h =
-      let zero-left : 0 + n ≡ n = omega arith in
+  skip_empty : (f : ℕ → List X) (from d n : ℕ) → ((t : ℕ) → from ≤ t → t < from + d → f t ≡ []) → joined_lists (map f (range_with_len from (d + n))) ≡ joined_lists (map f (range_with_len (from + d) n))
+  skip_empty f from zero n h =
+      let zero_left : 0 + n ≡ n = omega arith in
       let here : from ≡ from + 0 = omega arith in
-      ap (λ m. joined-lists (map f (counting from m))) zero-left ∙ ap (λ m. joined-lists (map f (counting m n))) here
-  skip-empty f from (suc d) n h =
+      ap (λ m. joined_lists (map f (range_with_len from m))) zero_left ∙ ap (λ m. joined_lists (map f (range_with_len m n))) here
+  skip_empty f from (suc d) n h =
       let on : suc d + n ≡ suc (d + n) = omega arith in
       let next : from + 1 + d ≡ from + suc d = omega arith in
-      ap (λ m. joined-lists (map f (counting from m))) on
-      ∙ ap (λ l. l ++ joined-lists (map f (counting (from + 1) (d + n)))) (h from (omega arith) (omega arith))
-      ∙ skip-empty f (from + 1) d n (λ t l u. h t (omega arith) (omega arith))
-      ∙ ap (λ m. joined-lists (map f (counting m n))) next
+      ap (λ m. joined_lists (map f (range_with_len from m))) on
+      ∙ ap (λ l. l ++ joined_lists (map f (range_with_len (from + 1) (d + n)))) (h from (omega arith) (omega arith))
+      ∙ skip_empty f (from + 1) d n (λ t l u. h t (omega arith) (omega arith))
+      ∙ ap (λ m. joined_lists (map f (range_with_len m n))) next
 
-  same-joined : (f g : ℕ → List X) (from n : ℕ) → ((t : ℕ) → from ≤ t → t < from + n → f t ≡ g t) → joined-lists (map f (counting from n)) ≡ joined-lists (map g (counting from n))
-  same-joined f g from zero h = refl
-  same-joined f g from (suc n) h =
-      ap (λ l. l ++ joined-lists (map f (counting (from + 1) n))) (h from (omega arith) (omega arith))
-      ∙ ap (λ l. g from ++ l) (same-joined f g (from + 1) n (λ t l u. h t (omega arith) (omega arith)))
+  same_joined : (f g : ℕ → List X) (from n : ℕ) → ((t : ℕ) → from ≤ t → t < from + n → f t ≡ g t) → joined_lists (map f (range_with_len from n)) ≡ joined_lists (map g (range_with_len from n))
+  same_joined f g from zero h = refl
+  same_joined f g from (suc n) h =
+      ap (λ l. l ++ joined_lists (map f (range_with_len (from + 1) n))) (h from (omega arith) (omega arith))
+      ∙ ap (λ l. g from ++ l) (same_joined f g (from + 1) n (λ t l u. h t (omega arith) (omega arith)))
 
-module _ {C : Type 0} (a : Asked C) (l : Landing) (at : LandingOf a l) (rows : List (LabelRow C)) (starts : List ℕ) (end : ℕ) (held : Hold rows starts (all-cells a) end) (inside : goal-of (a .inst) (a .cart) < place-count a) where
+module _ {C : Type 0} (a : Asked C) (l : Landing) (at : LandingOf a l) (rows : List (LabelRow C)) (starts : List ℕ) (end : ℕ) (held : Hold rows starts (all_cells a) end) (inside : goal_of a.inst a.cart < place_count a) where
   abbrev labels : List (Label C)
   labels = shown (take end rows)
 
-  base-of : (t : ℕ) → t * l .places ≡ length (cells-before a t)
-  base-of t = ap (λ n. t * n) (at .places) ∙ sym (length-cells a t)
+  base_of : (t : ℕ) → t * l.places ≡ length (cells_before a t)
+  base_of t = ap (λ n. t * n) at.places ∙ sym (length_cells a t)
 
   -- the goal's cell at a tick
-  run-part : (t : ℕ) → t ≤ a .inst .horizon → Part starts labels (cell-of l t) (kept (a .inst) (a .cart) (a .constraints) t (goal-of (a .inst) (a .cart)))
-  run-part t le =
-      let goal = goal-of (a .inst) (a .cart) in
-      subst (λ p. Part starts labels (t * l .places + p) (getD (row-of a t) goal [])) (sym (at .goal)) (tick-run a t goal (t * l .places) rows starts end le inside (base-of t) held)
+  run_part : (t : ℕ) → t ≤ a.inst.horizon → Part starts labels (cell_of l t) (kept a.inst a.cart a.constraints t (goal_of a.inst a.cart))
+  run_part t le =
+      let goal = goal_of a.inst a.cart in
+      subst (λ p. Part starts labels (t * l.places + p) (get_or (row_of a t) goal [])) (sym at.goal) (tick_run a t goal (t * l.places) rows starts end le inside (base_of t) held)
 
-  pub lands : length rows ≤ 65535 → a .inst .horizon ≤ 64 → place-count a ≤ 128 → length starts ≡ 8321 → Lands rows starts l end
+  pub lands : length rows ≤ 65535 → a.inst.horizon ≤ 64 → place_count a ≤ 128 → length starts ≡ 8321 → Lands rows starts l end
   lands few ticks places long =
-      let in-time = λ (t : ℕ) (le : t ≤ l .horizon). subst (λ h. t ≤ h) (at .horizon) le in
+      let in_time = λ (t : ℕ) (le : t ≤ l.horizon). subst (λ h. t ≤ h) at.horizon le in
       record {
         few = few;
-        within = held .within;
-        ticks = omega (arith, at .horizon);
-        table = λ t le. omega (arith, table-room a t (t * l .places) (omega (arith, in-time t le)) places (base-of t), at .goal, long);
-        up = λ t le. run-part t (in-time t le) .up;
-        held = λ t le. omega (arith, run-part t (in-time t le) .within, length-shown (take end rows), length-take-le end rows (held .within));
+        within = held.within;
+        ticks = omega (arith, at.horizon);
+        table = λ t le. omega (arith, table_room a t (t * l.places) (omega (arith, in_time t le)) places (base_of t), at.goal, long);
+        up = λ t le. (run_part t (in_time t le)).up;
+        held = λ t le. omega (arith, (run_part t (in_time t le)).within, length-shown (take end rows), length-take-le end rows held.within);
       }
 
   abbrev arrived : ℕ → List (Label C)
-  arrived = arriving (a .inst) (a .cart) (a .constraints)
+  arrived = arriving a.inst a.cart a.constraints
 
-  abbrev landing-at : ℕ → ℕ → ℕ → List (Label C)
-  landing-at h g t = standing (h - t) g (run-of starts l t labels)
+  abbrev landing_at : ℕ → ℕ → ℕ → List (Label C)
+  landing_at h g t = standing (h - t) g (run_of starts l t labels)
 
-  first-in-time : l .first ≤ a .inst .horizon
-  first-in-time =
-      let h = a .inst .horizon in
+  first_in_time : l.first ≤ a.inst.horizon
+  first_in_time =
+      let h = a.inst.horizon in
       let none : h - h ≡ 0 = omega arith in
-      leb-true (l .first) h (sym (sym (ap (may-stand (a .inst) (a .cart) (a .constraints) h) none) ∙ at .first h (omega arith)))
+      leb-true l.first h (sym (sym (ap (may_stand a.inst a.cart a.constraints h) none) ∙ at.first h (omega arith)))
 
-  too-early : (t : ℕ) → 0 ≤ t → t < 0 + l .first → arrived t ≡ []
-  too-early t l0 lt = cond-false _ _ _ (at .first t (omega (arith, first-in-time)) ∙ lt-leb (l .first) t (omega arith))
+  too_early : (t : ℕ) → 0 ≤ t → t < 0 + l.first → arrived t ≡ []
+  too_early t l0 lt = cond-false _ _ _ (at.first t (omega (arith, first_in_time)) ∙ lt-leb l.first t (omega arith))
 
-  in-time-same : (t : ℕ) → l .first ≤ t → t < l .first + (suc (a .inst .horizon) - l .first) → arrived t ≡ landing-at (a .inst .horizon) (goal-of (a .inst) (a .cart)) t
-  in-time-same t ge lt =
-      let h = a .inst .horizon in
-      let le : t ≤ h = omega (arith, first-in-time) in
-      cond-true _ _ _ (at .first t le ∙ le-leb (l .first) t ge) ∙ ap (standing (h - t) (goal-of (a .inst) (a .cart))) (sym (run-part t le .same))
+  in_time_same : (t : ℕ) → l.first ≤ t → t < l.first + (suc a.inst.horizon - l.first) → arrived t ≡ landing_at a.inst.horizon (goal_of a.inst a.cart) t
+  in_time_same t ge lt =
+      let h = a.inst.horizon in
+      let le : t ≤ h = omega (arith, first_in_time) in
+      cond-true _ _ _ (at.first t le ∙ le-leb l.first t ge) ∙ ap (standing (h - t) (goal_of a.inst a.cart)) (sym (run_part t le).same)
 
   -- the arrivals are the labels in the goal's cells
-  pub landed-is : arrivals (a .inst) (a .cart) (a .constraints) ≡ landed starts l labels
-  landed-is =
-      let h = a .inst .horizon in
-      let r = l .first in
-      let g = goal-of (a .inst) (a .cart) in
-      let all : suc h ≡ r + (suc h - r) = omega (arith, first-in-time) in
-      let from-zero : 0 + r ≡ r = omega arith in
-      ap (λ n. joined-lists (map arrived (counting 0 n))) all
-      ∙ skip-empty arrived 0 r (suc h - r) too-early
-      ∙ ap (λ m. joined-lists (map arrived (counting m (suc h - r)))) from-zero
-      ∙ same-joined arrived (landing-at h g) r (suc h - r) in-time-same
-      ∙ ap (λ p. joined-lists (map (landing-at h p) (counting r (suc h - r)))) (sym (at .goal))
-      ∙ ap (λ k. joined-lists (map (landing-at k (l .goal)) (counting r (suc k - r)))) (sym (at .horizon))
+  pub landed_is : arrivals a.inst a.cart a.constraints ≡ landed starts l labels
+  landed_is =
+      let h = a.inst.horizon in
+      let r = l.first in
+      let g = goal_of a.inst a.cart in
+      let all : suc h ≡ r + (suc h - r) = omega (arith, first_in_time) in
+      let from_zero : 0 + r ≡ r = omega arith in
+      ap (λ n. joined_lists (map arrived (range_with_len 0 n))) all
+      ∙ skip_empty arrived 0 r (suc h - r) too_early
+      ∙ ap (λ m. joined_lists (map arrived (range_with_len m (suc h - r)))) from_zero
+      ∙ same_joined arrived (landing_at h g) r (suc h - r) in_time_same
+      ∙ ap (λ p. joined_lists (map (landing_at h p) (range_with_len r (suc h - r)))) (sym at.goal)
+      ∙ ap (λ k. joined_lists (map (landing_at k l.goal) (range_with_len r (suc k - r)))) (sym at.horizon)
 
 -- there are no more offers than labels
 module _ {C : Type 0} (a : Asked C) where
-  cell-few : (row : List (List (Label C))) (p : ℕ) → length (getD row p []) ≤ total-length row
-  cell-few [] p = omega arith
-  cell-few (x ∷ row) zero = omega arith
-  cell-few (x ∷ row) (suc p) = omega (arith, cell-few row p)
+  cell_few : (row : List (List (Label C))) (p : ℕ) → length (get_or row p []) ≤ total_length row
+  cell_few [] p = omega arith
+  cell_few (x ∷ row) zero = omega arith
+  cell_few (x ∷ row) (suc p) = omega (arith, cell_few row p)
 
-  tick-few : (t : ℕ) → length (arriving (a .inst) (a .cart) (a .constraints) t) ≤ total-length (row-of a t)
-  tick-few t =
-      let goal = goal-of (a .inst) (a .cart) in
-      cond-both (may-stand (a .inst) (a .cart) (a .constraints) t (a .inst .horizon - t)) _ _ (λ l. length l ≤ total-length (row-of a t)) (λ _. simp length-map (cell-few (row-of a t) goal)) (λ _. omega arith)
+  tick_few : (t : ℕ) → length (arriving a.inst a.cart a.constraints t) ≤ total_length (row_of a t)
+  tick_few t =
+      let goal = goal_of a.inst a.cart in
+      cond_both (may_stand a.inst a.cart a.constraints t (a.inst.horizon - t)) _ _ (λ l. length l ≤ total_length (row_of a t)) (λ _. simp length-map (cell_few (row_of a t) goal)) (λ _. omega arith)
 
-  ticks-few : (ts : List ℕ) → length (joined-lists (map (arriving (a .inst) (a .cart) (a .constraints)) ts)) ≤ total-length (joined-lists (map (row-of a) ts))
-  ticks-few [] = omega arith
-  ticks-few (t ∷ ts) =
-      let here = arriving (a .inst) (a .cart) (a .constraints) t in
-      let rest = joined-lists (map (arriving (a .inst) (a .cart) (a .constraints)) ts) in
-      omega (arith, length-append here rest, tick-few t, ticks-few ts, total-append (row-of a t) (joined-lists (map (row-of a) ts)))
+  ticks_few : (ts : List ℕ) → length (joined_lists (map (arriving a.inst a.cart a.constraints) ts)) ≤ total_length (joined_lists (map (row_of a) ts))
+  ticks_few [] = omega arith
+  ticks_few (t ∷ ts) =
+      let here = arriving a.inst a.cart a.constraints t in
+      let rest = joined_lists (map (arriving a.inst a.cart a.constraints) ts) in
+      omega (arith, length-append here rest, tick_few t, ticks_few ts, total_append (row_of a t) (joined_lists (map (row_of a) ts)))
 
-  pub offers-few : Laws (a .inst .kind) → length (offers-of a) ≤ label-total a
-  offers-few laws = omega (arith, front-short (a .inst .kind) laws (arrivals (a .inst) (a .cart) (a .constraints)), ticks-few (counting 0 (suc (a .inst .horizon))))
+  pub offers-few : Laws a.inst.kind → length (offers_of a) ≤ label_total a
+  offers-few laws = omega (arith, front_short a.inst.kind laws (arrivals a.inst a.cart a.constraints), ticks_few (range_with_len 0 (suc a.inst.horizon)))

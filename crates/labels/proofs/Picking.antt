@@ -1,324 +1,316 @@
--- Picking one after another gives the front: what `front-of` keeps, and what is picked after the first of it.
+-- Picking one after another gives the front: what `front_of` keeps, and what is picked after the first of it.
 -- Assumes nothing.
-use mathlib.Core.Path.{_≡_, refl, sym, ap, subst, _∙_}
-use mathlib.Core.Bool.{Bool, true, false, _&&_, not}
-use mathlib.Core.List.{List, [], _∷_, _++_}
-use mathlib.Core.Logic.{_⊎_, inl, inr}
-use Prim.Native.Nat.{ℕ, _+_, _<_}
-use lib.ListN.{length, take, drop, getD}
-use Rattle·std.specs.declared.option.Option.{Option}
-use Rattle·std.specs.declared.option.Option.the-variants.{Some, None}
-use Rattle·std.specs.shelf.Lists.{All}
-use Rattle·std.specs.shelf.Maps.{nth}
-use Rattle·std.proofs.shelf.Lists.{append-nil, append-assoc, take-append-drop, drop-more, take-all}
-use Rattle·std.proofs.shelf.Maps.{nth-getD, nth-past}
-use Rattle·std.proofs.shelf.Tests.{cases-bool, cases-lt, both-ways, or-parts, or-from, not-false, and-from}
-use Rattle·std.proofs.shelf.Elements.{all-push, all-weaker}
-use Rattle·rules.specs.Kinds.{Kind, Laws, AtMost, Before}
-use Rattle·rules.specs.Fronts.{Entry, covered, added, added-all, front-of}
-use Rattle·rules.proofs.Members.{Any, any-weaker}
-use Rattle·rules.proofs.Fronts.{Ranked, Covered, Uncovered, covered-true, covered-false, put, all-put, covered-put, ranked-front}
-use Rattle·labels·specs.Picks.{sooner, better, picked, dominated, last-cost, comes-after, out-of-turn}
+use Rattle.std.proofs.Common.{◌≡◌, ℕ, ◌+◌, ◌<◌, Bool, true, false, not, ◌&&◌, ◌⊎◌, List, [], ◌∷◌, ◌++◌, length, get_or, take, drop, Some, None, Option, sym, refl, ap, ◌∙◌, subst, inl, inr}
+use Rattle.std.specs.List.{AllByRecursion, slice_get}
+use Rattle.std.proofs.lemmas.List.{append-nil, append_assoc, take-append-drop, drop_more, take_all}
+use Rattle.std.proofs.lemmas.Option.{slice_get-get_or, slice_get_past}
+use Rattle.std.proofs.lemmas.Bool.{cases_Bool, cases_lt, both_ways, or_parts, or_from, not-false, and_from}
+use Rattle.std.proofs.ByRecursion.{All-push, All-weaker}
+use Rattle.rules.specs.Kinds.{Kind, Laws, AtMost, Before}
+use Rattle.rules.specs.Fronts.{Entry, covered, added, added_all, front_of}
+use Rattle.rules.proofs.Members.{Any, any_weaker}
+use Rattle.rules.proofs.Fronts.{Ranked, Covered, Uncovered, covered_true, covered_false, put, all_put, covered-put, ranked_front}
+use Rattle.labels.specs.Picks.{sooner, better, picked, dominated, last_cost, comes_after, out_of_turn}
 
 module _ {C : Type 0} (k : Kind C) (laws : Laws k) where
-  not-back : (a b : C) → Before k a b → k .before b a ≡ false
-  not-back a b h = elim (cases-bool (k .before b a)) [
-    | inl e ↦ absurd (laws .before-irrefl a (laws .before-trans a b a h e))
+  not_back : (a b : C) → Before k a b → k.before b a ≡ false
+  not_back a b h = elim (cases_Bool (k.before b a)) [
+    | inl e ↦ absurd (laws.before_irrefl a (laws.before_trans a b a h e))
     | inr e ↦ e
   ]
 
-  not-self : (a : C) → k .before a a ≡ false
-  not-self a = elim (cases-bool (k .before a a)) [
-    | inl e ↦ absurd (laws .before-irrefl a e)
+  not_self : (a : C) → k.before a a ≡ false
+  not_self a = elim (cases_Bool (k.before a a)) [
+    | inl e ↦ absurd (laws.before_irrefl a e)
     | inr e ↦ e
   ]
 
-  at-most-cases : (a b : C) → AtMost k a b → (b ≡ a) ⊎ Before k a b
-  at-most-cases a b h = elim (laws .before-total a b) [
+  at_most_cases : (a b : C) → AtMost k a b → (b ≡ a) ⊎ Before k a b
+  at_most_cases a b h = elim (laws.before_total a b) [
     | inl e ↦ inl (sym e)
     | inr (inl e) ↦ inr e
-    | inr (inr e) ↦ inr (laws .at-most-before a b (h, λ s. laws .before-irrefl b (subst (λ x. Before k b x) s e)))
+    | inr (inr e) ↦ inr (laws.at_most_before a b (h, λ s. laws.before_irrefl b (subst (λ x. Before k b x) s e)))
   ]
 
 module _ {C B : Type 0} (k : Kind C) where
-  pub last-push : (o : Option C) (es : List (Entry C B)) (b : Entry C B) → last-cost k o (es ++ b ∷ []) ≡ Some (b .cost)
-  last-push o [] b = refl
-  last-push o (e ∷ es) b = last-push (Some (e .cost)) es b
+  pub last_push : (o : Option C) (es : List (Entry C B)) (b : Entry C B) → last_cost k o (es ++ b ∷ []) ≡ Some b.cost
+  last_push o [] b = refl
+  last_push o (e ∷ es) b = last_push (Some e.cost) es b
 
   -- f is the first entry of its cost
   abbrev pub FirstIn : List (Entry C B) → Entry C B → Type 0
   FirstIn [] f = ⊥
-  FirstIn (x ∷ xs) f = (x ≡ f) ⊎ ((x .cost ≡ f .cost → ⊥) × FirstIn xs f)
+  FirstIn (x ∷ xs) f = (x ≡ f) ⊎ ((x.cost ≡ f.cost → ⊥) × FirstIn xs f)
 
   -- each of ys is covered by es, and each of es is the first of its cost in ys
   pub record Kept (ys es : List (Entry C B)) : Type 0 where
-    pub covers : All (λ y. Covered k es (y .cost)) ys
-    pub first : All (FirstIn ys) es
+    pub covers : AllByRecursion (λ y. Covered k es y.cost) ys
+    pub first : AllByRecursion (FirstIn ys) es
 
-  not-covered : (es : List (Entry C B)) (c : C) → Covered k es c → Uncovered k es c → ⊥
-  not-covered [] c h u = h
-  not-covered (e ∷ es) c (inl h) u = both-ways (k .at-most (e .cost) c) (u .0) h
-  not-covered (e ∷ es) c (inr h) u = not-covered es c h (u .1)
+  not_covered : (es : List (Entry C B)) (c : C) → Covered k es c → Uncovered k es c → ⊥
+  not_covered [] c h u = h
+  not_covered (e ∷ es) c (inl h) u = both_ways (k.at_most e.cost c) u.0 h
+  not_covered (e ∷ es) c (inr h) u = not_covered es c h u.1
 
-  covers-true : (es : List (Entry C B)) (c : C) → Covered k es c → covered k es c ≡ true
-  covers-true es c h = elim (cases-bool (covered k es c)) [
+  covers_true : (es : List (Entry C B)) (c : C) → Covered k es c → covered k es c ≡ true
+  covers_true es c h = elim (cases_Bool (covered k es c)) [
     | inl e ↦ e
-    | inr e ↦ absurd (not-covered es c h (covered-false k es c e))
+    | inr e ↦ absurd (not_covered es c h (covered_false k es c e))
   ]
 
-  first-more : (ys : List (Entry C B)) (x e : Entry C B) → FirstIn ys e → FirstIn (ys ++ x ∷ []) e
-  first-more [] x e h = absurd h
-  first-more (y ∷ ys) x e (inl s) = inl s
-  first-more (y ∷ ys) x e (inr p) = inr (p .0, first-more ys x e (p .1))
+  first_more : (ys : List (Entry C B)) (x e : Entry C B) → FirstIn ys e → FirstIn (ys ++ x ∷ []) e
+  first_more [] x e h = absurd h
+  first_more (y ∷ ys) x e (inl s) = inl s
+  first_more (y ∷ ys) x e (inr p) = inr (p.0, first_more ys x e p.1)
 
-  first-last : (ys : List (Entry C B)) (x : Entry C B) → All (λ y. y .cost ≡ x .cost → ⊥) ys → FirstIn (ys ++ x ∷ []) x
-  first-last [] x h = inl refl
-  first-last (y ∷ ys) x h = inr (h .0, first-last ys x (h .1))
+  first_last : (ys : List (Entry C B)) (x : Entry C B) → AllByRecursion (λ y. y.cost ≡ x.cost → ⊥) ys → FirstIn (ys ++ x ∷ []) x
+  first_last [] x h = inl refl
+  first_last (y ∷ ys) x h = inr (h.0, first_last ys x h.1)
 
   module _ (laws : Laws k) where
-    kept-more : (ys es : List (Entry C B)) (x : Entry C B) → Kept ys es → Kept (ys ++ x ∷ []) (added k es x)
-    kept-more ys es x h =
-        let more = all-weaker (FirstIn ys) (FirstIn (ys ++ x ∷ [])) (first-more ys x) es (h .first) in
-        elim (cases-bool (covered k es (x .cost))) [
-          | inl b ↦ rw b (record { covers = all-push (λ y. Covered k es (y .cost)) ys x (h .covers) (covered-true k es (x .cost) b); first = more })
+    kept_more : (ys es : List (Entry C B)) (x : Entry C B) → Kept ys es → Kept (ys ++ x ∷ []) (added k es x)
+    kept_more ys es x h =
+        let more = All-weaker (FirstIn ys) (FirstIn (ys ++ x ∷ [])) (first_more ys x) es h.first in
+        elim (cases_Bool (covered k es x.cost)) [
+          | inl b ↦ rw b (record { covers = All-push (λ y. Covered k es y.cost) ys x h.covers (covered_true k es x.cost b); first = more })
           | inr b ↦
-              let other = λ (y : Entry C B) (c : Covered k es (y .cost)) (s : y .cost ≡ x .cost). not-covered es (x .cost) (subst (Covered k es) s c) (covered-false k es (x .cost) b) in
+              let other = λ (y : Entry C B) (c : Covered k es y.cost) (s : y.cost ≡ x.cost). not_covered es x.cost (subst (Covered k es) s c) (covered_false k es x.cost b) in
               rw b (record {
-                covers = all-push (λ y. Covered k (put k es x) (y .cost)) ys x
-                    (all-weaker (λ y. Covered k es (y .cost)) (λ y. Covered k (put k es x) (y .cost)) (λ y c. covered-put k laws es x (y .cost) (inr c)) ys (h .covers))
-                    (covered-put k laws es x (x .cost) (inl (laws .at-most-refl (x .cost))));
-                first = all-put k (FirstIn (ys ++ x ∷ [])) es x more
-                    (first-last ys x (all-weaker (λ y. Covered k es (y .cost)) (λ y. y .cost ≡ x .cost → ⊥) other ys (h .covers)));
+                covers = All-push (λ y. Covered k (put k es x) y.cost) ys x
+                    (All-weaker (λ y. Covered k es y.cost) (λ y. Covered k (put k es x) y.cost) (λ y c. covered-put k laws es x y.cost (inr c)) ys h.covers)
+                    (covered-put k laws es x x.cost (inl (laws.at_most_refl x.cost)));
+                first = all_put k (FirstIn (ys ++ x ∷ [])) es x more
+                    (first_last ys x (All-weaker (λ y. Covered k es y.cost) (λ y. y.cost ≡ x.cost → ⊥) other ys h.covers));
               })
         ]
 
-    kept-all : (xs ys es : List (Entry C B)) → Kept ys es → Kept (ys ++ xs) (added-all k es xs)
-    kept-all [] ys es h = subst (λ l. Kept l es) (sym (append-nil ys)) h
-    kept-all (x ∷ xs) ys es h = subst (λ l. Kept l (added-all k (added k es x) xs)) (append-assoc ys (x ∷ []) xs) (kept-all xs (ys ++ x ∷ []) (added k es x) (kept-more ys es x h))
+    kept_all : (xs ys es : List (Entry C B)) → Kept ys es → Kept (ys ++ xs) (added_all k es xs)
+    kept_all [] ys es h = subst (λ l. Kept l es) (sym (append-nil ys)) h
+    kept_all (x ∷ xs) ys es h = subst (λ l. Kept l (added_all k (added k es x) xs)) (append_assoc ys (x ∷ []) xs) (kept_all xs (ys ++ x ∷ []) (added k es x) (kept_more ys es x h))
 
-    pub front-kept : (xs : List (Entry C B)) → Kept xs (front-of k xs)
-    front-kept xs = kept-all xs [] [] (record { covers = tt; first = tt })
+    pub front_kept : (xs : List (Entry C B)) → Kept xs (front_of k xs)
+    front_kept xs = kept_all xs [] [] (record { covers = tt; first = tt })
 
 module _ {C B : Type 0} (k : Kind C) (laws : Laws k) (skip : C → Bool) where
   -- x is skipped, or does not come before f
   abbrev Late : Entry C B → Entry C B → Type 0
-  Late f x = (skip (x .cost) ≡ true) ⊎ ((x .cost ≡ f .cost) ⊎ Before k (f .cost) (x .cost))
+  Late f x = (skip x.cost ≡ true) ⊎ ((x.cost ≡ f.cost) ⊎ Before k f.cost x.cost)
 
-  picked-stays : (f : Entry C B) (xs : List (Entry C B)) → All (Late f) xs → picked k skip (Some f) xs ≡ Some f
-  picked-stays f [] h = refl
-  picked-stays f (x ∷ xs) h =
-      let stays : better k skip (Some f) x ≡ Some f = elim (cases-bool (skip (x .cost))) [
+  picked_stays : (f : Entry C B) (xs : List (Entry C B)) → AllByRecursion (Late f) xs → picked k skip (Some f) xs ≡ Some f
+  picked_stays f [] h = refl
+  picked_stays f (x ∷ xs) h =
+      let stays : better k skip (Some f) x ≡ Some f = elim (cases_Bool (skip x.cost)) [
         | inl c ↦ rw c
-        | inr c ↦ rw c (elim (h .0) [
-          | inl d ↦ absurd (both-ways (skip (x .cost)) c d)
-          | inr (inl s) ↦ rw s (rw (not-self k laws (f .cost)))
-          | inr (inr s) ↦ rw (not-back k laws (f .cost) (x .cost) s)
+        | inr c ↦ rw c (elim h.0 [
+          | inl d ↦ absurd (both_ways (skip x.cost) c d)
+          | inr (inl s) ↦ rw s (rw (not_self k laws f.cost))
+          | inr (inr s) ↦ rw (not_back k laws f.cost x.cost s)
         ])
       ] in
-      ap (λ o. picked k skip o xs) stays ∙ picked-stays f xs (h .1)
+      ap (λ o. picked k skip o xs) stays ∙ picked_stays f xs h.1
 
   abbrev After : Entry C B → Option (Entry C B) → Type 0
   After f None = Unit {0}
-  After f (Some b) = Before k (f .cost) (b .cost)
+  After f (Some b) = Before k f.cost b.cost
 
   comes : (f : Entry C B) (o : Option (Entry C B)) → After f o → sooner k o f ≡ Some f
   comes f None h = refl
   comes f (Some b) h = rw h
 
-  waits : (f x : Entry C B) (o : Option (Entry C B)) → After f o → Before k (f .cost) (x .cost) → After f (sooner k o x)
+  waits : (f x : Entry C B) (o : Option (Entry C B)) → After f o → Before k f.cost x.cost → After f (sooner k o x)
   waits f x None h l = l
-  waits f x (Some b) h l = elim (cases-bool (k .before (x .cost) (b .cost))) [
+  waits f x (Some b) h l = elim (cases_Bool (k.before x.cost b.cost)) [
     | inl e ↦ rw e l
     | inr e ↦ rw e h
   ]
 
-  picked-is : (f : Entry C B) (o : Option (Entry C B)) (xs : List (Entry C B)) → skip (f .cost) ≡ false → After f o → FirstIn k xs f → All (Late f) xs → picked k skip o xs ≡ Some f
-  picked-is f o [] free a fi h = absurd fi
-  picked-is f o (x ∷ xs) free a (inl s) h =
+  picked_is : (f : Entry C B) (o : Option (Entry C B)) (xs : List (Entry C B)) → skip f.cost ≡ false → After f o → FirstIn k xs f → AllByRecursion (Late f) xs → picked k skip o xs ≡ Some f
+  picked_is f o [] free a fi h = absurd fi
+  picked_is f o (x ∷ xs) free a (inl s) h =
       let here : better k skip o x ≡ Some f = ap (better k skip o) s ∙ (rw free (comes f o a)) in
-      ap (λ p. picked k skip p xs) here ∙ picked-stays f xs (h .1)
-  picked-is f o (x ∷ xs) free a (inr p) h = elim (cases-bool (skip (x .cost))) [
-    | inl c ↦ rw c (picked-is f o xs free a (p .1) (h .1))
-    | inr c ↦ rw c (picked-is f (sooner k o x) xs free (waits f x o a (elim (h .0) [
-      | inl d ↦ absurd (both-ways (skip (x .cost)) c d)
-      | inr (inl s) ↦ absurd (p .0 s)
+      ap (λ p. picked k skip p xs) here ∙ picked_stays f xs h.1
+  picked_is f o (x ∷ xs) free a (inr p) h = elim (cases_Bool (skip x.cost)) [
+    | inl c ↦ rw c (picked_is f o xs free a p.1 h.1)
+    | inr c ↦ rw c (picked_is f (sooner k o x) xs free (waits f x o a (elim h.0 [
+      | inl d ↦ absurd (both_ways (skip x.cost) c d)
+      | inr (inl s) ↦ absurd (p.0 s)
       | inr (inr s) ↦ s
-    ])) (p .1) (h .1))
+    ])) p.1 h.1)
   ]
 
-  picked-none : (xs : List (Entry C B)) → All (λ x. skip (x .cost) ≡ true) xs → picked k skip None xs ≡ None
-  picked-none [] h = refl
-  picked-none (x ∷ xs) h = rw (h .0) (picked-none xs (h .1))
+  picked_none : (xs : List (Entry C B)) → AllByRecursion (λ x. skip x.cost ≡ true) xs → picked k skip None xs ≡ None
+  picked_none [] h = refl
+  picked_none (x ∷ xs) h = rw h.0 (picked_none xs h.1)
 
 module _ {C B : Type 0} (k : Kind C) (laws : Laws k) where
   -- what some of the rest of a front covers stands after its first
-  late-rest : (f : Entry C B) (rs : List (Entry C B)) (c : C) → All (λ r. Before k (f .cost) (r .cost) × (k .at-most (f .cost) (r .cost) ≡ false)) rs → Covered k rs c → Before k (f .cost) c
-  late-rest f [] c h cov = absurd cov
-  late-rest f (r ∷ rs) c h (inl m) = elim (at-most-cases k laws (r .cost) c m) [
-    | inl s ↦ subst (λ z. Before k (f .cost) z) (sym s) (h .0 .0)
-    | inr b ↦ laws .before-trans (f .cost) (r .cost) c (h .0 .0) b
+  late_rest : (f : Entry C B) (rs : List (Entry C B)) (c : C) → AllByRecursion (λ r. Before k f.cost r.cost × (k.at_most f.cost r.cost ≡ false)) rs → Covered k rs c → Before k f.cost c
+  late_rest f [] c h cov = absurd cov
+  late_rest f (r ∷ rs) c h (inl m) = elim (at_most_cases k laws r.cost c m) [
+    | inl s ↦ subst (λ z. Before k f.cost z) (sym s) h.0.0
+    | inr b ↦ laws.before_trans f.cost r.cost c h.0.0 b
   ]
-  late-rest f (r ∷ rs) c h (inr m) = late-rest f rs c (h .1) m
+  late_rest f (r ∷ rs) c h (inr m) = late_rest f rs c h.1 m
 
-  any-parts : (P : Entry C B → Type 0) (es rs : List (Entry C B)) → Any P (es ++ rs) → Any P es ⊎ Any P rs
-  any-parts P [] rs h = inr h
-  any-parts P (e ∷ es) rs (inl p) = inl (inl p)
-  any-parts P (e ∷ es) rs (inr h) = elim (any-parts P es rs h) [ inl q ↦ inl (inr q) | inr q ↦ inr q ]
+  any_parts : (P : Entry C B → Type 0) (es rs : List (Entry C B)) → Any P (es ++ rs) → Any P es ⊎ Any P rs
+  any_parts P [] rs h = inr h
+  any_parts P (e ∷ es) rs (inl p) = inl (inl p)
+  any_parts P (e ∷ es) rs (inr h) = elim (any_parts P es rs h) [ inl q ↦ inl (inr q) | inr q ↦ inr q ]
 
-  ranked-back : (es rs : List (Entry C B)) → Ranked k (es ++ rs) → Ranked k rs
-  ranked-back [] rs h = h
-  ranked-back (e ∷ es) rs h = ranked-back es rs (h .1)
+  ranked_back : (es rs : List (Entry C B)) → Ranked k (es ++ rs) → Ranked k rs
+  ranked_back [] rs h = h
+  ranked_back (e ∷ es) rs h = ranked_back es rs h.1
 
-  all-back : (P : Entry C B → Type 0) (es rs : List (Entry C B)) → All P (es ++ rs) → All P rs
-  all-back P [] rs h = h
-  all-back P (e ∷ es) rs h = all-back P es rs (h .1)
+  all_back : (P : Entry C B → Type 0) (es rs : List (Entry C B)) → AllByRecursion P (es ++ rs) → AllByRecursion P rs
+  all_back P [] rs h = h
+  all_back P (e ∷ es) rs h = all_back P es rs h.1
 
-  all-part : (P : Entry C B → Type 0) (es rs : List (Entry C B)) → All P (es ++ rs) → All P es
-  all-part P [] rs h = tt
-  all-part P (e ∷ es) rs h = (h .0, all-part P es rs (h .1))
+  all_part : (P : Entry C B → Type 0) (es rs : List (Entry C B)) → AllByRecursion P (es ++ rs) → AllByRecursion P es
+  all_part P [] rs h = tt
+  all_part P (e ∷ es) rs h = (h.0, all_part P es rs h.1)
 
-  ranked-free : (es : List (Entry C B)) (f : Entry C B) (rs : List (Entry C B)) → Ranked k (es ++ f ∷ rs) → covered k es (f .cost) ≡ false
-  ranked-free [] f rs h = refl
-  ranked-free (e ∷ es) f rs h = or-from _ _ (all-back _ es (f ∷ rs) (h .0) .0 .1) (ranked-free es f rs (h .1))
+  ranked_free : (es : List (Entry C B)) (f : Entry C B) (rs : List (Entry C B)) → Ranked k (es ++ f ∷ rs) → covered k es f.cost ≡ false
+  ranked_free [] f rs h = refl
+  ranked_free (e ∷ es) f rs h = or_from _ _ (all_back _ es (f ∷ rs) h.0).0.1 (ranked_free es f rs h.1)
 
-  ranked-part : (es rs : List (Entry C B)) → Ranked k (es ++ rs) → Ranked k es
-  ranked-part [] rs h = tt
-  ranked-part (e ∷ es) rs h = (all-part _ es rs (h .0), ranked-part es rs (h .1))
+  ranked_part : (es rs : List (Entry C B)) → Ranked k (es ++ rs) → Ranked k es
+  ranked_part [] rs h = tt
+  ranked_part (e ∷ es) rs h = (all_part _ es rs h.0, ranked_part es rs h.1)
 
   -- the last of some of a front comes before the next
-  last-before : (o : Option C) (es : List (Entry C B)) (f : Entry C B) (rs : List (Entry C B)) → comes-after k o (f .cost) ≡ true → Ranked k (es ++ f ∷ rs) → comes-after k (last-cost k o es) (f .cost) ≡ true
-  last-before o [] f rs h r = h
-  last-before o (e ∷ es) f rs h r = last-before (Some (e .cost)) es f rs (all-back _ es (f ∷ rs) (r .0) .0 .0) (r .1)
+  last_before : (o : Option C) (es : List (Entry C B)) (f : Entry C B) (rs : List (Entry C B)) → comes_after k o f.cost ≡ true → Ranked k (es ++ f ∷ rs) → comes_after k (last_cost k o es) f.cost ≡ true
+  last_before o [] f rs h r = h
+  last_before o (e ∷ es) f rs h r = last_before (Some e.cost) es f rs (all_back _ es (f ∷ rs) r.0).0.0 r.1
 
   -- what comes after the last of a front is none of it
-  not-behind : (b c : C) (es : List (Entry C B)) → (b ≡ c) ⊎ Before k c b → All (λ e. Before k c (e .cost) × (k .at-most c (e .cost) ≡ false)) es → comes-after k (last-cost k (Some b) es) c ≡ false
-  not-behind b c [] (inl e) h = rw e (not-self k laws c)
-  not-behind b c [] (inr l) h = not-back k laws c b l
-  not-behind b c (e ∷ es) o h = not-behind (e .cost) c es (inr (h .0 .0)) (h .1)
+  not_behind : (b c : C) (es : List (Entry C B)) → (b ≡ c) ⊎ Before k c b → AllByRecursion (λ e. Before k c e.cost × (k.at_most c e.cost ≡ false)) es → comes_after k (last_cost k (Some b) es) c ≡ false
+  not_behind b c [] (inl e) h = rw e (not_self k laws c)
+  not_behind b c [] (inr l) h = not_back k laws c b l
+  not_behind b c (e ∷ es) o h = not_behind e.cost c es (inr h.0.0) h.1
 
-  not-taken : (o : Option C) (es : List (Entry C B)) (c : C) → Ranked k es → comes-after k (last-cost k o es) c ≡ true → Any (λ e. e .cost ≡ c) es → ⊥
-  not-taken o [] c r h m = m
-  not-taken o (e ∷ es) c r h (inl s) = both-ways _ (not-behind (e .cost) (e .cost) es (inl refl) (r .0)) (subst (λ z. comes-after k (last-cost k (Some (e .cost)) es) z ≡ true) (sym s) h)
-  not-taken o (e ∷ es) c r h (inr m) = not-taken (Some (e .cost)) es c (r .1) h m
+  not_taken : (o : Option C) (es : List (Entry C B)) (c : C) → Ranked k es → comes_after k (last_cost k o es) c ≡ true → Any (λ e. e.cost ≡ c) es → ⊥
+  not_taken o [] c r h m = m
+  not_taken o (e ∷ es) c r h (inl s) = both_ways _ (not_behind e.cost e.cost es (inl refl) r.0) (subst (λ z. comes_after k (last_cost k (Some e.cost) es) z ≡ true) (sym s) h)
+  not_taken o (e ∷ es) c r h (inr m) = not_taken (Some e.cost) es c r.1 h m
 
   -- a cost that nothing dominates, and that some entry is at most, is that entry's
-  not-dominator : (xs : List (Entry C B)) (e : Entry C B) (c : C) → FirstIn k xs e → dominated k xs c ≡ false → AtMost k (e .cost) c → e .cost ≡ c
-  not-dominator [] e c fi h le = absurd fi
-  not-dominator (x ∷ xs) e c (inl s) h le =
-      let no = subst (λ z. (k .at-most (z .cost) c && k .before (z .cost) c) ≡ false) s (or-parts _ _ h .0) in
-      elim (at-most-cases k laws (e .cost) c le) [
+  not_dominator : (xs : List (Entry C B)) (e : Entry C B) (c : C) → FirstIn k xs e → dominated k xs c ≡ false → AtMost k e.cost c → e.cost ≡ c
+  not_dominator [] e c fi h le = absurd fi
+  not_dominator (x ∷ xs) e c (inl s) h le =
+      let no = subst (λ z. (k.at_most z.cost c && k.before z.cost c) ≡ false) s (or_parts _ _ h).0 in
+      elim (at_most_cases k laws e.cost c le) [
         | inl same ↦ sym same
-        | inr b ↦ absurd (both-ways _ no (and-from _ _ le b))
+        | inr b ↦ absurd (both_ways _ no (and_from _ _ le b))
       ]
-  not-dominator (x ∷ xs) e c (inr p) h le = not-dominator xs e c (p .1) (or-parts _ _ h .1) le
+  not_dominator (x ∷ xs) e c (inr p) h le = not_dominator xs e c p.1 (or_parts _ _ h).1 le
 
-  due-equal : (xs es : List (Entry C B)) (c : C) → All (FirstIn k xs) es → dominated k xs c ≡ false → Covered k es c → Any (λ e. e .cost ≡ c) es
-  due-equal xs [] c fi h cov = cov
-  due-equal xs (e ∷ es) c fi h (inl le) = inl (not-dominator xs e c (fi .0) h le)
-  due-equal xs (e ∷ es) c fi h (inr m) = inr (due-equal xs es c (fi .1) h m)
+  due_equal : (xs es : List (Entry C B)) (c : C) → AllByRecursion (FirstIn k xs) es → dominated k xs c ≡ false → Covered k es c → Any (λ e. e.cost ≡ c) es
+  due_equal xs [] c fi h cov = cov
+  due_equal xs (e ∷ es) c fi h (inl le) = inl (not_dominator xs e c fi.0 h le)
+  due_equal xs (e ∷ es) c fi h (inr m) = inr (due_equal xs es c fi.1 h m)
 
-  after-rest : (f : Entry C B) (rs : List (Entry C B)) (c : C) → All (λ r. Before k (f .cost) (r .cost) × (k .at-most (f .cost) (r .cost) ≡ false)) rs → Any (λ r. r .cost ≡ c) rs → Before k (f .cost) c
-  after-rest f [] c h m = absurd m
-  after-rest f (r ∷ rs) c h (inl e) = subst (λ z. Before k (f .cost) z) e (h .0 .0)
-  after-rest f (r ∷ rs) c h (inr m) = after-rest f rs c (h .1) m
+  after_rest : (f : Entry C B) (rs : List (Entry C B)) (c : C) → AllByRecursion (λ r. Before k f.cost r.cost × (k.at_most f.cost r.cost ≡ false)) rs → Any (λ r. r.cost ≡ c) rs → Before k f.cost c
+  after_rest f [] c h m = absurd m
+  after_rest f (r ∷ rs) c h (inl e) = subst (λ z. Before k f.cost z) e h.0.0
+  after_rest f (r ∷ rs) c h (inr m) = after_rest f rs c h.1 m
 
-  module _ (xs es : List (Entry C B)) (f : Entry C B) (rs : List (Entry C B)) (is : front-of k xs ≡ es ++ f ∷ rs) where
+  module _ (xs es : List (Entry C B)) (f : Entry C B) (rs : List (Entry C B)) (is : front_of k xs ≡ es ++ f ∷ rs) where
     whole : Kept k xs (es ++ f ∷ rs)
-    whole = subst (Kept k xs) is (front-kept k laws xs)
+    whole = subst (Kept k xs) is (front_kept k laws xs)
 
     ranked : Ranked k (es ++ f ∷ rs)
-    ranked = subst (Ranked k) is (ranked-front k laws xs)
+    ranked = subst (Ranked k) is (ranked_front k laws xs)
 
-    first-next : FirstIn k xs f
-    first-next = all-back (FirstIn k xs) es (f ∷ rs) (whole .first) .0
+    first_next : FirstIn k xs f
+    first_next = (all_back (FirstIn k xs) es (f ∷ rs) whole.first).0
 
-    in-turn : comes-after k (last-cost k None es) (f .cost) ≡ true
-    in-turn = last-before None es f rs refl ranked
+    in_turn : comes_after k (last_cost k None es) f.cost ≡ true
+    in_turn = last_before None es f rs refl ranked
 
     -- after some of a front, the next is picked among those that they do not cover
-    picks-uncovered : picked k (covered k es) None xs ≡ Some f
-    picks-uncovered =
-        picked-is k laws (covered k es) f None xs (ranked-free es f rs ranked) tt first-next
-        (all-weaker (λ x. Covered k (es ++ f ∷ rs) (x .cost)) (Late k laws (covered k es) f) (λ x c. elim (any-parts _ es (f ∷ rs) c) [
-          | inl m ↦ inl (covers-true k es (x .cost) m)
-          | inr (inl m) ↦ inr (at-most-cases k laws (f .cost) (x .cost) m)
-          | inr (inr m) ↦ inr (inr (late-rest f rs (x .cost) (ranked-back es (f ∷ rs) ranked .0) m))
-        ]) xs (whole .covers))
+    picks_uncovered : picked k (covered k es) None xs ≡ Some f
+    picks_uncovered =
+        picked_is k laws (covered k es) f None xs (ranked_free es f rs ranked) tt first_next
+        (All-weaker (λ x. Covered k (es ++ f ∷ rs) x.cost) (Late k laws (covered k es) f) (λ x c. elim (any_parts _ es (f ∷ rs) c) [
+          | inl m ↦ inl (covers_true k es x.cost m)
+          | inr (inl m) ↦ inr (at_most_cases k laws f.cost x.cost m)
+          | inr (inr m) ↦ inr (inr (late_rest f rs x.cost (ranked_back es (f ∷ rs) ranked).0 m))
+        ]) xs whole.covers)
 
     -- what the front covers and is at most f, f is at most
-    reaches-next : (c : C) → Covered k (es ++ f ∷ rs) c → AtMost k c (f .cost) → AtMost k (f .cost) c
-    reaches-next c cov le = elim (any-parts _ es (f ∷ rs) cov) [
-      | inl m ↦ absurd (not-covered k es (f .cost) (any-weaker _ _ (λ e l. laws .at-most-trans (e .cost) c (f .cost) l le) es m) (covered-false k es (f .cost) (ranked-free es f rs ranked)))
+    reaches_next : (c : C) → Covered k (es ++ f ∷ rs) c → AtMost k c f.cost → AtMost k f.cost c
+    reaches_next c cov le = elim (any_parts _ es (f ∷ rs) cov) [
+      | inl m ↦ absurd (not_covered k es f.cost (any_weaker _ _ (λ e l. laws.at_most_trans e.cost c f.cost l le) es m) (covered_false k es f.cost (ranked_free es f rs ranked)))
       | inr (inl m) ↦ m
       | inr (inr m) ↦
-          let later = late-rest f rs c (ranked-back es (f ∷ rs) ranked .0) m in
-          absurd (elim (at-most-cases k laws c (f .cost) le) [
-            | inl e ↦ laws .before-irrefl c (subst (λ z. Before k z c) e later)
-            | inr b ↦ laws .before-irrefl c (laws .before-trans c (f .cost) c b later)
+          let later = late_rest f rs c (ranked_back es (f ∷ rs) ranked).0 m in
+          absurd (elim (at_most_cases k laws c f.cost le) [
+            | inl e ↦ laws.before_irrefl c (subst (λ z. Before k z c) e later)
+            | inr b ↦ laws.before_irrefl c (laws.before_trans c f.cost c b later)
           ])
     ]
 
-    next-undominated : (ys : List (Entry C B)) → All (λ y. Covered k (es ++ f ∷ rs) (y .cost)) ys → dominated k ys (f .cost) ≡ false
-    next-undominated [] h = refl
-    next-undominated (y ∷ ys) h =
-        or-from _ _ (elim (cases-bool (k .at-most (y .cost) (f .cost))) [
-          | inl le ↦ elim (cases-bool (k .before (y .cost) (f .cost))) [
-            | inl b ↦ absurd (laws .before-irrefl (f .cost) (subst (λ z. Before k z (f .cost)) (laws .at-most-antisym (y .cost) (f .cost) le (reaches-next (y .cost) (h .0) le)) b))
+    next_undominated : (ys : List (Entry C B)) → AllByRecursion (λ y. Covered k (es ++ f ∷ rs) y.cost) ys → dominated k ys f.cost ≡ false
+    next_undominated [] h = refl
+    next_undominated (y ∷ ys) h =
+        or_from _ _ (elim (cases_Bool (k.at_most y.cost f.cost)) [
+          | inl le ↦ elim (cases_Bool (k.before y.cost f.cost)) [
+            | inl b ↦ absurd (laws.before_irrefl f.cost (subst (λ z. Before k z f.cost) (laws.at_most_antisym y.cost f.cost le (reaches_next y.cost h.0 le)) b))
             | inr b ↦ rw (le, b)
           ]
-          | inr no-le ↦ rw no-le
-        ]) (next-undominated ys (h .1))
+          | inr no_le ↦ rw no_le
+        ]) (next_undominated ys h.1)
 
     -- after some of a front, the next is the first in order after the last of them that nothing dominates
-    picks-in-turn : picked k (out-of-turn k (last-cost k None es) xs) None xs ≡ Some f
-    picks-in-turn =
-        let last = last-cost k None es in
-        let free : out-of-turn k (last-cost k None es) xs (f .cost) ≡ false = rw (in-turn, next-undominated xs (whole .covers)) in
-        picked-is k laws (out-of-turn k last xs) f None xs free tt first-next
-        (all-weaker (λ x. Covered k (es ++ f ∷ rs) (x .cost)) (Late k laws (out-of-turn k last xs) f) (λ x c. elim (cases-bool (out-of-turn k last xs (x .cost))) [
+    picks_in_turn : picked k (out_of_turn k (last_cost k None es) xs) None xs ≡ Some f
+    picks_in_turn =
+        let last = last_cost k None es in
+        let free : out_of_turn k (last_cost k None es) xs f.cost ≡ false = rw (in_turn, next_undominated xs whole.covers) in
+        picked_is k laws (out_of_turn k last xs) f None xs free tt first_next
+        (All-weaker (λ x. Covered k (es ++ f ∷ rs) x.cost) (Late k laws (out_of_turn k last xs) f) (λ x c. elim (cases_Bool (out_of_turn k last xs x.cost)) [
           | inl skipped ↦ inl skipped
-          | inr due ↦ inr (due-late x (or-parts _ _ due) c)
-        ]) xs (whole .covers))
+          | inr due ↦ inr (due_late x (or_parts _ _ due) c)
+        ]) xs whole.covers)
       where
-        due-late : (x : Entry C B) → (not (comes-after k (last-cost k None es) (x .cost)) ≡ false) × (dominated k xs (x .cost) ≡ false) → Covered k (es ++ f ∷ rs) (x .cost) → (x .cost ≡ f .cost) ⊎ Before k (f .cost) (x .cost)
-        due-late x due c = elim (any-parts _ es (f ∷ rs) (due-equal xs (es ++ f ∷ rs) (x .cost) (whole .first) (due .1) c)) [
-          | inl m ↦ absurd (not-taken None es (x .cost) (ranked-part es (f ∷ rs) ranked) (not-false _ (due .0)) m)
+        due_late : (x : Entry C B) → (not (comes_after k (last_cost k None es) x.cost) ≡ false) × (dominated k xs x.cost ≡ false) → Covered k (es ++ f ∷ rs) x.cost → (x.cost ≡ f.cost) ⊎ Before k f.cost x.cost
+        due_late x due c = elim (any_parts _ es (f ∷ rs) (due_equal xs (es ++ f ∷ rs) x.cost whole.first due.1 c)) [
+          | inl m ↦ absurd (not_taken None es x.cost (ranked_part es (f ∷ rs) ranked) (not-false _ due.0) m)
           | inr (inl e) ↦ inl (sym e)
-          | inr (inr m) ↦ inr (after-rest f rs (x .cost) (ranked-back es (f ∷ rs) ranked .0) m)
+          | inr (inr m) ↦ inr (after_rest f rs x.cost (ranked_back es (f ∷ rs) ranked).0 m)
         ]
 
-  all-out : (xs : List (Entry C B)) (ys : List (Entry C B)) → All (λ y. Covered k (front-of k xs) (y .cost)) ys → All (λ y. out-of-turn k (last-cost k None (front-of k xs)) xs (y .cost) ≡ true) ys
-  all-out xs [] h = tt
-  all-out xs (y ∷ ys) h = (
-    elim (cases-bool (out-of-turn k (last-cost k None (front-of k xs)) xs (y .cost))) [
+  all_out : (xs : List (Entry C B)) (ys : List (Entry C B)) → AllByRecursion (λ y. Covered k (front_of k xs) y.cost) ys → AllByRecursion (λ y. out_of_turn k (last_cost k None (front_of k xs)) xs y.cost ≡ true) ys
+  all_out xs [] h = tt
+  all_out xs (y ∷ ys) h = (
+    elim (cases_Bool (out_of_turn k (last_cost k None (front_of k xs)) xs y.cost)) [
       | inl e ↦ e
       | inr due ↦
-          let parts = or-parts _ _ due in
-          absurd (not-taken None (front-of k xs) (y .cost) (ranked-front k laws xs) (not-false _ (parts .0)) (due-equal xs (front-of k xs) (y .cost) (front-kept k laws xs .first) (parts .1) (h .0)))
+          let parts = or_parts _ _ due in
+          absurd (not_taken None (front_of k xs) y.cost (ranked_front k laws xs) (not-false _ parts.0) (due_equal xs (front_of k xs) y.cost (front_kept k laws xs).first parts.1 h.0))
     ],
-    all-out xs ys (h .1),
+    all_out xs ys h.1,
   )
 
   module _ (xs : List (Entry C B)) (j : ℕ) where
-    front-split : (d : Entry C B) → j < length (front-of k xs) → front-of k xs ≡ take j (front-of k xs) ++ getD (front-of k xs) j d ∷ drop (j + 1) (front-of k xs)
-    front-split d lt = sym (take-append-drop j (front-of k xs)) ∙ ap (λ l. take j (front-of k xs) ++ l) (drop-more (front-of k xs) j d lt)
+    front_split : (d : Entry C B) → j < length (front_of k xs) → front_of k xs ≡ take j (front_of k xs) ++ get_or (front_of k xs) j d ∷ drop (j + 1) (front_of k xs)
+    front_split d lt = sym (take-append-drop j (front_of k xs)) ∙ ap (λ l. take j (front_of k xs) ++ l) (drop_more (front_of k xs) j d lt)
 
     -- what is picked once the first j of the front are there is the next of it
-    pub picks-next : Entry C B → picked k (covered k (take j (front-of k xs))) None xs ≡ nth (front-of k xs) j
-    picks-next d = elim (cases-lt j (length (front-of k xs))) [
-      | inl lt ↦ picks-uncovered xs (take j (front-of k xs)) (getD (front-of k xs) j d) (drop (j + 1) (front-of k xs)) (front-split d lt) ∙ sym (nth-getD (front-of k xs) j d lt)
+    pub picks_next : Entry C B → picked k (covered k (take j (front_of k xs))) None xs ≡ slice_get (front_of k xs) j
+    picks_next d = elim (cases_lt j (length (front_of k xs))) [
+      | inl lt ↦ picks_uncovered xs (take j (front_of k xs)) (get_or (front_of k xs) j d) (drop (j + 1) (front_of k xs)) (front_split d lt) ∙ sym (slice_get-get_or (front_of k xs) j d lt)
       | inr ge ↦
-          picked-none k laws (covered k (take j (front-of k xs))) xs
-          (rw (take-all j (front-of k xs) ge) (all-weaker (λ x. Covered k (front-of k xs) (x .cost)) (λ x. covered k (front-of k xs) (x .cost) ≡ true) (λ x c. covers-true k (front-of k xs) (x .cost) c) xs (front-kept k laws xs .covers)))
-          ∙ sym (nth-past (front-of k xs) j ge)
+          picked_none k laws (covered k (take j (front_of k xs))) xs
+          (rw (take_all j (front_of k xs) ge) (All-weaker (λ x. Covered k (front_of k xs) x.cost) (λ x. covered k (front_of k xs) x.cost ≡ true) (λ x c. covers_true k (front_of k xs) x.cost c) xs (front_kept k laws xs).covers))
+          ∙ sym (slice_get_past (front_of k xs) j ge)
     ]
 
     -- the same, where what is passed over is not after the last of them, or dominated
-    pub picks-after : Entry C B → picked k (out-of-turn k (last-cost k None (take j (front-of k xs))) xs) None xs ≡ nth (front-of k xs) j
-    picks-after d = elim (cases-lt j (length (front-of k xs))) [
-      | inl lt ↦ picks-in-turn xs (take j (front-of k xs)) (getD (front-of k xs) j d) (drop (j + 1) (front-of k xs)) (front-split d lt) ∙ sym (nth-getD (front-of k xs) j d lt)
+    pub picks_after : Entry C B → picked k (out_of_turn k (last_cost k None (take j (front_of k xs))) xs) None xs ≡ slice_get (front_of k xs) j
+    picks_after d = elim (cases_lt j (length (front_of k xs))) [
+      | inl lt ↦ picks_in_turn xs (take j (front_of k xs)) (get_or (front_of k xs) j d) (drop (j + 1) (front_of k xs)) (front_split d lt) ∙ sym (slice_get-get_or (front_of k xs) j d lt)
       | inr ge ↦
-          picked-none k laws (out-of-turn k (last-cost k None (take j (front-of k xs))) xs) xs
-          (rw (take-all j (front-of k xs) ge) (all-out xs xs (front-kept k laws xs .covers)))
-          ∙ sym (nth-past (front-of k xs) j ge)
+          picked_none k laws (out_of_turn k (last_cost k None (take j (front_of k xs))) xs) xs
+          (rw (take_all j (front_of k xs) ge) (all_out xs xs (front_kept k laws xs).covers))
+          ∙ sym (slice_get_past (front_of k xs) j ge)
     ]

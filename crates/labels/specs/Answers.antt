@@ -1,28 +1,19 @@
 -- What the calls answer: when they refuse, what they count and write, and what that promises.
 -- Assumes nothing.
-use mathlib.Core.Path.{_≡_}
-use mathlib.Core.Bool.{cond}
-use mathlib.Core.List.{List, reverse}
-use Prim.Native.Nat.{ℕ, suc, _<_, _≤_}
-use lib.Dec.{eqb, ltb, leb}
-use lib.ListN.{length, getD}
-use Rattle·std.specs.declared.option.Option.{Option}
-use Rattle·std.specs.declared.option.Option.the-variants.{Some, None}
-use Rattle·std.specs.declared.result.Result.{Result}
-use Rattle·std.specs.declared.result.Result.the-variants.{Ok, Err}
-use Rattle·std.specs.Options.{orOther, mapped}
-use Rattle·std.specs.shelf.Maps.{nth}
-use Rattle·rules.specs.Fronts.{Front}
-use Rattle·rules.specs.Instances.{cart-count, start-of, goal-of}
-use Rattle·rules.specs.Walks.{Walk, place-at, Permitted}
-use Rattle·rules.specs.Offers.{Label}
-use Rattle·charts.specs.declared.chart.Chart.{Chart}
-use Rattle·labels·specs.declared.refusal.LabelRefusal.{LabelRefusal}
-use Rattle·labels·specs.declared.refusal.LabelRefusal.the-variants.{WrongLength, HorizonTooLong, TooManyRows, NoSuchCart, StartOffFloor, GoalOffFloor, NoRowLeft}
-use Rattle·labels·specs.Queries.{Asked, place-count, label-total}
-use Rattle·labels·specs.Charting.{Charted}
-use Rattle·labels·specs.Tables.{Hold, all-cells}
-use Rattle·labels·specs.Rows.{LabelRow}
+use Rattle.std.specs.Prelude.{◌≡◌, ℕ, suc, ◌<◌, ◌≤◌, cond, List, reverse, length, Some, None, Ok, Err, Option, Result, ◌==◌, nat_le, nat_lt, slice_index}
+use Rattle.std.specs.Option.{option_or, option_map}
+use Rattle.std.specs.List.{slice_get}
+use Rattle.rules.specs.Fronts.{Front}
+use Rattle.rules.specs.Instances.{cart_count, start_of, goal_of}
+use Rattle.rules.specs.Walks.{Walk, place_at, Permitted}
+use Rattle.rules.specs.Offers.{Label}
+use Rattle.charts.specs.declared.chart.Chart.{Chart}
+use Rattle.labels.specs.declared.refusal.LabelRefusal.{LabelRefusal}
+use Rattle.labels.specs.declared.refusal.LabelRefusal.TheVariants.{WrongLength, HorizonTooLong, TooManyRows, NoSuchCart, StartOffFloor, GoalOffFloor, NoRowLeft}
+use Rattle.labels.specs.Queries.{Asked, place_count, label_total}
+use Rattle.labels.specs.Charting.{Charted}
+use Rattle.labels.specs.Tables.{Hold, all_cells}
+use Rattle.labels.specs.Rows.{LabelRow}
 
 -- an answer, unless something hinders it
 abbrev pub told : {X : Type 0} → Option LabelRefusal → X → Result X LabelRefusal
@@ -33,65 +24,65 @@ module _ {C : Type 0} (a : Asked C) where
   -- why a query is refused before any label is counted, in the order of the checks
   abbrev pub refusal : ℕ → Option LabelRefusal
   refusal rows =
-      cond (ltb 64 (a .inst .horizon)) (Some HorizonTooLong)
-      (cond (ltb 65535 rows) (Some TooManyRows)
-      (cond (leb (cart-count (a .inst)) (a .cart)) (Some NoSuchCart)
-      (cond (leb (place-count a) (start-of (a .inst) (a .cart))) (Some StartOffFloor)
-      (cond (leb (place-count a) (goal-of (a .inst) (a .cart))) (Some GoalOffFloor) None))))
+      cond (nat_lt 64 a.inst.horizon) (Some HorizonTooLong)
+      (cond (nat_lt 65535 rows) (Some TooManyRows)
+      (cond (nat_le (cart_count a.inst) a.cart) (Some NoSuchCart)
+      (cond (nat_le (place_count a) (start_of a.inst a.cart)) (Some StartOffFloor)
+      (cond (nat_le (place_count a) (goal_of a.inst a.cart)) (Some GoalOffFloor) None))))
 
   -- why a query has no answer: it is refused, or its labels exceed the rows
   abbrev pub hindrance : ℕ → Option LabelRefusal
-  hindrance rows = orOther (refusal rows) (cond (leb (label-total a) rows) None (Some NoRowLeft))
+  hindrance rows = option_or (refusal rows) (cond (nat_le (label_total a) rows) None (Some NoRowLeft))
 
   -- the same, where a walk is to be written
-  abbrev pub walk-hindrance : ℕ → ℕ → Option LabelRefusal
-  walk-hindrance rows long = cond (eqb long (suc (a .inst .horizon))) (hindrance rows) (Some WrongLength)
+  abbrev pub walk_hindrance : ℕ → ℕ → Option LabelRefusal
+  walk_hindrance rows long = cond (long == suc a.inst.horizon) (hindrance rows) (Some WrongLength)
 
   -- what is known once the labels are in the rows
   pub record Solved (chart : Chart) (rows : List (LabelRow C)) (starts : List ℕ) (n : ℕ) : Type 0 where
     pub charted : Charted a chart
     pub few : length rows ≤ 65535
-    pub ticks : a .inst .horizon ≤ 64
-    pub known : a .cart < cart-count (a .inst)
-    pub begins : start-of (a .inst) (a .cart) < place-count a
-    pub inside : goal-of (a .inst) (a .cart) < place-count a
-    pub count : n ≡ label-total a
-    pub held : Hold rows starts (all-cells a) n
+    pub ticks : a.inst.horizon ≤ 64
+    pub known : a.cart < cart_count a.inst
+    pub begins : start_of a.inst a.cart < place_count a
+    pub inside : goal_of a.inst a.cart < place_count a
+    pub count : n ≡ label_total a
+    pub held : Hold rows starts (all_cells a) n
 
   abbrev pub LaidOut : ℕ → Chart → List (LabelRow C) → List ℕ → Result ℕ LabelRefusal → Type 0
   LaidOut long chart rows starts (Ok n) = (hindrance long ≡ None) × Solved chart rows starts n
   LaidOut long chart rows starts (Err e) = hindrance long ≡ Some e
 
 -- an offer's cost, and its places from tick 0 on; other places stay as they were
-abbrev pub cost-of : {C : Type 0} → Result (Option (Label C)) LabelRefusal → Result (Option C) LabelRefusal
-cost-of (Ok o) = Ok (mapped (λ l. l .cost) o)
-cost-of (Err e) = Err e
+abbrev pub cost_of : {C : Type 0} → Result (Option (Label C)) LabelRefusal → Result (Option C) LabelRefusal
+cost_of (Ok o) = Ok (option_map (λ l. l.cost) o)
+cost_of (Err e) = Err e
 
 abbrev pub walked : {C : Type 0} → Option (Label C) → List ℕ → List ℕ
 walked None was = was
-walked (Some o) was = reverse (o .item)
+walked (Some o) was = reverse o.item
 
-abbrev pub walk-of : {C : Type 0} → Result (Option (Label C)) LabelRefusal → List ℕ → List ℕ
-walk-of (Ok o) was = walked o was
-walk-of (Err e) was = was
+abbrev pub walk_of : {C : Type 0} → Result (Option (Label C)) LabelRefusal → List ℕ → List ℕ
+walk_of (Ok o) was = walked o was
+walk_of (Err e) was = was
 
 module _ {C : Type 0} (a : Asked C) where
   -- c is the cost of some walk that the constraints permit the cart
   abbrev pub PermittedCost : C → Type 0
-  PermittedCost c = (w : Walk (a .inst) (a .cart)) × Permitted (a .inst) (a .constraints) w × (w .cost ≡ c)
+  PermittedCost c = (w : Walk a.inst a.cart) × Permitted a.inst a.constraints w × (w.cost ≡ c)
 
   -- the number counts the undominated costs of the permitted walks
   abbrev pub CountPromise : Result ℕ LabelRefusal → Type 0
-  CountPromise (Ok n) = (cs : List C) × Front (a .inst .kind) PermittedCost cs × (n ≡ length cs)
+  CountPromise (Ok n) = (cs : List C) × Front a.inst.kind PermittedCost cs × (n ≡ length cs)
   CountPromise (Err e) = Unit {0}
 
   -- the places are those of a permitted walk of the cost
   abbrev pub Written : List ℕ → Option C → Type 0
   Written ps None = Unit {0}
   Written ps (Some c) =
-      (w : Walk (a .inst) (a .cart)) × Permitted (a .inst) (a .constraints) w × (w .cost ≡ c) × (length ps ≡ suc (a .inst .horizon)) × ((t : ℕ) → t ≤ a .inst .horizon → getD ps t 0 ≡ place-at (a .inst) w t)
+      (w : Walk a.inst a.cart) × Permitted a.inst a.constraints w × (w.cost ≡ c) × (length ps ≡ suc a.inst.horizon) × ((t : ℕ) → t ≤ a.inst.horizon → slice_index ps t ≡ place_at a.inst w t)
 
   -- the cost is the one with that number among the undominated costs of the permitted walks, in the kind's order, and a walk of it is written
   abbrev pub WalkPromise : ℕ → List ℕ → Result (Option C) LabelRefusal → Type 0
-  WalkPromise n ps (Ok o) = ((cs : List C) × Front (a .inst .kind) PermittedCost cs × (o ≡ nth cs n)) × Written ps o
+  WalkPromise n ps (Ok o) = ((cs : List C) × Front a.inst.kind PermittedCost cs × (o ≡ slice_get cs n)) × Written ps o
   WalkPromise n ps (Err e) = Unit {0}

@@ -1,47 +1,41 @@
 -- Filling one cell: what stands in the tables meanwhile, and how a label is selected.
 -- Assumes nothing.
-use mathlib.Core.Path.{_≡_}
-use mathlib.Core.Bool.{cond}
-use mathlib.Core.List.{List, [], _++_}
-use Prim.Native.Nat.{ℕ, _+_, _<_, _≤_}
-use lib.ListN.{length, getD, take, drop}
-use Rattle·std.specs.declared.option.Option.{Option}
-use Rattle·std.specs.declared.option.Option.the-variants.{Some, None}
-use Rattle·charts.specs.declared.inbound.Inbound.{Inbound}
-use Rattle·charts.specs.Parts.{Part}
-use Rattle·rules.specs.Kinds.{Kind}
-use Rattle·rules.specs.Fronts.{covered}
-use Rattle·rules.specs.Instances.{price}
-use Rattle·rules.specs.Offers.{Label}
-use Rattle·labels·specs.declared.cell.Cell.{Cell}
-use Rattle·labels·specs.Picks.{picked}
-use Rattle·labels·specs.Queries.{Asked, row-of, place-count, may-take}
-use Rattle·labels·specs.Rows.{LabelRow, shown, shown-best, extended-by}
+use Rattle.std.specs.Prelude.{◌≡◌, ℕ, ◌+◌, ◌<◌, ◌≤◌, cond, List, [], ◌++◌, length, take, drop, Some, None, Option, slice_index_or}
+use Rattle.charts.specs.declared.inbound.Inbound.{Inbound}
+use Rattle.charts.specs.Parts.{Part}
+use Rattle.rules.specs.Kinds.{Kind}
+use Rattle.rules.specs.Fronts.{covered}
+use Rattle.rules.specs.Instances.{price}
+use Rattle.rules.specs.Offers.{Label}
+use Rattle.labels.specs.declared.cell.Cell.{Cell}
+use Rattle.labels.specs.Picks.{picked}
+use Rattle.labels.specs.Queries.{Asked, row_of, place_count, may_take}
+use Rattle.labels.specs.Rows.{LabelRow, shown, shown_best, extended_by}
 
 -- the labels of each of the first n places of a row stand where the beginnings from base on say
 abbrev pub Runs : {C : Type 0} → List ℕ → ℕ → List (Label C) → List (List (Label C)) → ℕ → Type 0
-Runs starts base ls row n = (u : ℕ) → u < n → Part starts ls (base + u) (getD row u [])
+Runs starts base ls row n = (u : ℕ) → u < n → Part starts ls (base + u) (slice_index_or row u [])
 
 -- the best so far, once the candidates have come
 abbrev pub Selects : {C : Type 0} → Kind C → List (LabelRow C) → Cell → ℕ → Option (LabelRow C) → List (Label C) → Option (LabelRow C) → Type 0
-Selects k rows cell end best candidates r = let ls = shown (take end rows) in shown-best ls r ≡ picked k (covered k (drop (cell .start) ls)) (shown-best ls best) candidates
+Selects k rows cell end best candidates r = let ls = shown (take end rows) in shown_best ls r ≡ picked k (covered k (drop cell.start ls)) (shown_best ls best) candidates
 
 module _ {C : Type 0} (a : Asked C) where
   -- what one move brings to the cell, where the cart may make it; and what it brings
   abbrev pub brings : Cell → Inbound → List (Label C)
-  brings cell m = extended-by (a .inst .kind) (price (a .inst) (m .line)) (cell .place) (getD (row-of a (cell .tick)) (m .from) [])
+  brings cell m = extended_by a.inst.kind (price a.inst m.line) cell.place (slice_index_or (row_of a cell.tick) m.from [])
 
-  abbrev pub by-one : Cell → Inbound → List (Label C)
-  by-one cell m = cond (may-take a (m .from) (cell .place) (cell .tick)) (brings cell m) []
+  abbrev pub by_one : Cell → Inbound → List (Label C)
+  by_one cell m = cond (may_take a m.from cell.place cell.tick) (brings cell m) []
 
   -- while a cell is filled, the rows hold the labels of the tick before, and the cell's own from its start up to end
   pub record Ready (cell : Cell) (rows : List (LabelRow C)) (starts : List ℕ) (end : ℕ) : Type 0 where
-    pub tick : cell .tick ≤ 63
-    pub from : cell .start ≤ end
+    pub tick : cell.tick ≤ 63
+    pub from : cell.start ≤ end
     pub within : end ≤ length rows
     pub few : length rows ≤ 65535
-    pub table : cell .base + place-count a < length starts
-    pub runs : Runs starts (cell .base) (shown (take end rows)) (row-of a (cell .tick)) (place-count a)
+    pub table : cell.base + place_count a < length starts
+    pub runs : Runs starts cell.base (shown (take end rows)) (row_of a cell.tick) (place_count a)
 
 -- after the first n rows stand those of the labels, unless there is no room for all of them
 abbrev pub Grown : {C : Type 0} → List (LabelRow C) → List (LabelRow C) → ℕ → List (Label C) → Option ℕ → Type 0

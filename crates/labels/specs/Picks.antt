@@ -1,20 +1,17 @@
 -- The next of a front: the first in the kind's order of the entries that are not skipped, and among equal costs the earliest.
 -- Assumes nothing.
-use mathlib.Core.Bool.{Bool, true, false, cond, _&&_, _||_, not}
-use mathlib.Core.List.{List, [], _∷_}
-use Rattle·std.specs.declared.option.Option.{Option}
-use Rattle·std.specs.declared.option.Option.the-variants.{Some, None}
-use Rattle·rules.specs.Kinds.{Kind}
-use Rattle·rules.specs.Fronts.{Entry}
+use Rattle.std.specs.Prelude.{Bool, true, false, cond, not, ◌&&◌, ◌||◌, List, [], ◌∷◌, Some, None, Option}
+use Rattle.rules.specs.Kinds.{Kind}
+use Rattle.rules.specs.Fronts.{Entry}
 
 module _ {C B : Type 0} (k : Kind C) where
   -- the first of the two in the kind's order; among equal costs the one that was there
   abbrev pub sooner : Option (Entry C B) → Entry C B → Option (Entry C B)
   sooner None x = Some x
-  sooner (Some b) x = cond (k .before (x .cost) (b .cost)) (Some x) (Some b)
+  sooner (Some b) x = cond (k.before x.cost b.cost) (Some x) (Some b)
 
   abbrev pub better : (C → Bool) → Option (Entry C B) → Entry C B → Option (Entry C B)
-  better skip o x = cond (skip (x .cost)) o (sooner o x)
+  better skip o x = cond (skip x.cost) o (sooner o x)
 
   abbrev pub picked : (C → Bool) → Option (Entry C B) → List (Entry C B) → Option (Entry C B)
   picked skip o [] = o
@@ -23,18 +20,18 @@ module _ {C B : Type 0} (k : Kind C) where
   -- some entry dominates c: it is at most c, and listed before it
   abbrev pub dominated : List (Entry C B) → C → Bool
   dominated [] c = false
-  dominated (x ∷ xs) c = (k .at-most (x .cost) c && k .before (x .cost) c) || dominated xs c
+  dominated (x ∷ xs) c = (k.at_most x.cost c && k.before x.cost c) || dominated xs c
 
   -- the cost of the last entry, and what was there where there is none
-  abbrev pub last-cost : Option C → List (Entry C B) → Option C
-  last-cost o [] = o
-  last-cost o (e ∷ es) = last-cost (Some (e .cost)) es
+  abbrev pub last_cost : Option C → List (Entry C B) → Option C
+  last_cost o [] = o
+  last_cost o (e ∷ es) = last_cost (Some e.cost) es
 
 -- c comes after the last cost taken
-abbrev pub comes-after : {C : Type 0} → Kind C → Option C → C → Bool
-comes-after k None c = true
-comes-after k (Some b) c = k .before b c
+abbrev pub comes_after : {C : Type 0} → Kind C → Option C → C → Bool
+comes_after k None c = true
+comes_after k (Some b) c = k.before b c
 
 -- c is no next member of the front of xs, once those up to the last have been taken
-abbrev pub out-of-turn : {C B : Type 0} → Kind C → Option C → List (Entry C B) → C → Bool
-out-of-turn k last xs c = not (comes-after k last c) || dominated k xs c
+abbrev pub out_of_turn : {C B : Type 0} → Kind C → Option C → List (Entry C B) → C → Bool
+out_of_turn k last xs c = not (comes_after k last c) || dominated k xs c

@@ -1,16 +1,11 @@
 -- What rows of labels say: each has a cost and a place, and goes on from an earlier row, its parent, or from none.
 -- Assumes nothing.
-use mathlib.Core.Bool.{Bool, true}
-use mathlib.Core.List.{List, [], _∷_, _++_, map}
-use Prim.Native.Nat.{ℕ}
-use lib.ListN.{getD}
-use Rattle·std.specs.declared.option.Option.{Option}
-use Rattle·std.specs.declared.option.Option.the-variants.{Some, None}
-use Rattle·std.specs.Options.{mapped}
-use Rattle·rules.specs.Kinds.{Kind}
-use Rattle·rules.specs.Offers.{Label}
-use Rattle·fronts.specs.declared.row.Row.{Row}
-use Rattle·labels·specs.declared.row.Hop.{Hop}
+use Rattle.std.specs.Prelude.{ℕ, Bool, true, List, [], ◌∷◌, ◌++◌, map, Some, None, Option, slice_index_or}
+use Rattle.std.specs.Option.{option_map}
+use Rattle.rules.specs.Kinds.{Kind}
+use Rattle.rules.specs.Offers.{Label}
+use Rattle.fronts.specs.declared.row.Row.{Row}
+use Rattle.labels.specs.declared.row.Hop.{Hop}
 
 -- a row of labels: a cost, and the last hop
 abbrev pub LabelRow : Type 0 → Type 0
@@ -18,31 +13,31 @@ LabelRow C = Row C Hop
 
 module _ {C : Type 0} where
   -- the places of the label at n, the latest first, and none where there is no such label
-  abbrev pub trace-at : List (Label C) → ℕ → List ℕ
-  trace-at ls n = getD (map (λ l. l .item) ls) n []
+  abbrev pub trace_at : List (Label C) → ℕ → List ℕ
+  trace_at ls n = slice_index_or (map (λ l. l.item) ls) n []
 
   -- a hop, and a row, after the labels that it may go on from
   abbrev pub hopped : List (Label C) → Hop → List ℕ
-  hopped ls h = h .place ∷ trace-at ls (h .parent)
+  hopped ls h = h.place ∷ trace_at ls h.parent
 
-  abbrev pub shown-row : List (Label C) → LabelRow C → Label C
-  shown-row ls r = record { cost = r .cost; item = hopped ls (r .tag) }
+  abbrev pub shown_row : List (Label C) → LabelRow C → Label C
+  shown_row ls r = record { cost = r.cost; item = hopped ls r.tag }
 
-  abbrev pub shown-from : List (Label C) → List (LabelRow C) → List (Label C)
-  shown-from ls [] = ls
-  shown-from ls (r ∷ rs) = shown-from (ls ++ shown-row ls r ∷ []) rs
+  abbrev pub shown_from : List (Label C) → List (LabelRow C) → List (Label C)
+  shown_from ls [] = ls
+  shown_from ls (r ∷ rs) = shown_from (ls ++ shown_row ls r ∷ []) rs
 
   unfoldable pub shown : List (LabelRow C) → List (Label C)
-  shown rs = shown-from [] rs
+  shown rs = shown_from [] rs
 
-  abbrev pub shown-best : List (Label C) → Option (LabelRow C) → Option (Label C)
-  shown-best ls o = mapped (shown-row ls) o
+  abbrev pub shown_best : List (Label C) → Option (LabelRow C) → Option (Label C)
+  shown_best ls o = option_map (shown_row ls) o
 
 -- labels, one move on
-abbrev pub extended-by : {C : Type 0} → Kind C → C → ℕ → List (Label C) → List (Label C)
-extended-by k price to ls = map (λ l. record { cost = k .join (l .cost) price; item = to ∷ l .item }) ls
+abbrev pub extended_by : {C : Type 0} → Kind C → C → ℕ → List (Label C) → List (Label C)
+extended_by k price to ls = map (λ l. record { cost = k.join l.cost price; item = to ∷ l.item }) ls
 
 -- c would come before the best so far
 abbrev pub leads : {C : Type 0} → Kind C → Option (LabelRow C) → C → Bool
 leads k None c = true
-leads k (Some b) c = k .before c (b .cost)
+leads k (Some b) c = k.before c b.cost

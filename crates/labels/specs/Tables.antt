@@ -1,44 +1,39 @@
 -- The tables of one cart's labels: the rows, and where each cell begins.
 -- Assumes nothing.
-use mathlib.Core.Path.{_≡_}
-use mathlib.Core.List.{List, [], _++_}
-use Prim.Native.Nat.{ℕ, zero, suc, _<_, _≤_}
-use lib.ListN.{length, take}
-use Rattle·std.specs.declared.option.Option.{Option}
-use Rattle·std.specs.declared.option.Option.the-variants.{Some, None}
-use Rattle·rules.specs.Offers.{Label, joined-lists, total-length}
-use Rattle·labels·specs.declared.layer.Layer.{Layer}
-use Rattle·charts.specs.Parts.{Marked}
-use Rattle·labels·specs.Queries.{Asked, row-of, label-total}
-use Rattle·labels·specs.Rows.{LabelRow, shown}
+use Rattle.std.specs.Prelude.{◌≡◌, ℕ, zero, suc, ◌<◌, ◌≤◌, List, [], ◌++◌, length, take, Some, None, Option}
+use Rattle.rules.specs.Offers.{Label, joined_lists, total_length}
+use Rattle.labels.specs.declared.layer.Layer.{Layer}
+use Rattle.charts.specs.Parts.{Marked}
+use Rattle.labels.specs.Queries.{Asked, row_of, label_total}
+use Rattle.labels.specs.Rows.{LabelRow, shown}
 
 -- the first n rows hold the labels of the cells, one cell after another, and the starts say where each cell begins, and the last one ends
 pub record Hold {C : Type 0} (rows : List (LabelRow C)) (starts : List ℕ) (cells : List (List (Label C))) (n : ℕ) : Type 0 where
   pub within : n ≤ length rows
-  pub labels : shown (take n rows) ≡ joined-lists cells
+  pub labels : shown (take n rows) ≡ joined_lists cells
   pub marks : Marked starts cells
 
 -- the cells are held, unless there is no room for their labels
 abbrev pub Holding : {C : Type 0} → List (LabelRow C) → List ℕ → List (List (Label C)) → Option ℕ → Type 0
-Holding rows starts cells None = length rows < total-length cells
+Holding rows starts cells None = length rows < total_length cells
 Holding rows starts cells (Some n) = Hold rows starts cells n
 
 -- the cells of the ticks before t, place by place
-unfoldable pub cells-before : {C : Type 0} → Asked C → ℕ → List (List (Label C))
-cells-before a zero = []
-cells-before a (suc t) = cells-before a t ++ row-of a t
+unfoldable pub cells_before : {C : Type 0} → Asked C → ℕ → List (List (Label C))
+cells_before a zero = []
+cells_before a (suc t) = cells_before a t ++ row_of a t
 
 module _ {C : Type 0} (a : Asked C) where
   -- all cells
-  abbrev pub all-cells : List (List (Label C))
-  all-cells = cells-before a (suc (a .inst .horizon))
+  abbrev pub all_cells : List (List (Label C))
+  all_cells = cells_before a (suc a.inst.horizon)
 
   -- all labels of the cart are held, unless there is no room for them
   abbrev pub Filled : List (LabelRow C) → List ℕ → Option ℕ → Type 0
-  Filled rows starts None = length rows < label-total a
-  Filled rows starts (Some n) = (n ≡ label-total a) × Hold rows starts all-cells n
+  Filled rows starts None = length rows < label_total a
+  Filled rows starts (Some n) = (n ≡ label_total a) × Hold rows starts all_cells n
 
   -- what a layer says of its tick
   pub record Laid (layer : Layer) : Type 0 where
-    pub base : layer .base ≡ length (cells-before a (layer .tick))
-    pub before : (t : ℕ) → layer .tick ≡ suc t → layer .before ≡ length (cells-before a t)
+    pub base : layer.base ≡ length (cells_before a layer.tick)
+    pub before : (t : ℕ) → layer.tick ≡ suc t → layer.before ≡ length (cells_before a t)

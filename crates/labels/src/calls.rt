@@ -1,22 +1,19 @@
-ghost use mathlib.Core.Path.{_≡_};
-ghost use Prim.Native.Nat.{_+_};
-ghost use lib.ListN.{length};
-ghost use Rattle·std.specs.Options.{mapped};
-ghost use Rattle·std.specs.shelf.Maps.{nth};
-ghost use Rattle·charts.specs.Charts.{Blank};
-ghost use Rattle·labels·specs.Answers.{refusal, hindrance, walk-hindrance, told, LaidOut, Solved, cost-of, walked, walk-of, CountPromise, WalkPromise};
-ghost use Rattle·labels·specs.Queries.{asked, label-total, offers-of};
+ghost use Rattle.std.specs.Prelude.{◌≡◌, ◌+◌, length};
+ghost use Rattle.std.specs.Option.{option_map};
+ghost use Rattle.std.specs.List.{slice_get};
+ghost use Rattle.charts.specs.Charts.{Blank};
+ghost use Rattle.labels.specs.Answers.{refusal, hindrance, walk_hindrance, told, LaidOut, Solved, cost_of, walked, walk_of, CountPromise, WalkPromise};
+ghost use Rattle.labels.specs.Queries.{asked, label_total, offers_of};
+
 use crate::landings::landing_of;
-use crate::offers::count_all;
-use crate::offers::find_offer;
+use crate::offers::{count_all, find_offer};
 use crate::query::Query;
 use crate::refusal::LabelRefusal;
 use crate::row::LabelRow;
 use crate::tables::fill_labels;
 use crate::walks::write_walk;
 use carts::Constrains;
-use charts::Chart;
-use charts::draw;
+use charts::{Chart, draw};
 use costs::CostKind;
 use floors::Floor;
 
@@ -25,7 +22,7 @@ fn refuses<F: Floor, C: CostKind, B: Constrains>(
     query: &Query<'_, F, C, B>,
     rows: usize,
 ) -> Option<LabelRefusal>
-    ensures { λ r. ⌜ r ≡ refusal (asked (F·Floor .moves) (C·CostKind .kind) (B·Constrains .constraint) (now (query .entry))) rows ⌝ }
+    ensures { result ≡ refusal (asked F.Floor.moves C.CostKind.kind B.Constrains.constraint query.now) rows }
 {
     if query.horizon > 64 {
         return Some(LabelRefusal::HorizonTooLong);
@@ -52,9 +49,9 @@ fn lay_out<F: Floor, C: CostKind, B: Constrains>(
     rows: &mut [LabelRow<C>],
     starts: &mut [u16],
 ) -> Result<usize, LabelRefusal>
-    requires table { ⌜ length (now starts) ≡ 8321 ⌝ }
-    requires blank { ⌜ Blank (now chart) ⌝ }
-    ensures { λ r. ⌜ LaidOut (asked (F·Floor .moves) (C·CostKind .kind) (B·Constrains .constraint) (now (query .entry))) (length (now (rows .entry))) (now (chart .exit)) (now (rows .exit)) (now (starts .exit)) r ⌝ }
+    requires table { length starts.old ≡ 8321 }
+    requires blank { Blank chart.old }
+    ensures { LaidOut (asked F.Floor.moves C.CostKind.kind B.Constrains.constraint query.now) (length rows.old) chart.new rows.new starts.new result }
 {
     if let Some(refusal) = refuses(query, rows.len()) {
         return Err(refusal);
@@ -71,7 +68,7 @@ pub fn count_labels<F: Floor, C: CostKind, B: Constrains>(
     query: &Query<'_, F, C, B>,
     rows: &mut [LabelRow<C>],
 ) -> Result<u16, LabelRefusal>
-    ensures { λ r. ⌜ r ≡ told (hindrance (asked (F·Floor .moves) (C·CostKind .kind) (B·Constrains .constraint) (now (query .entry))) (length (now (rows .entry)))) (label-total (asked (F·Floor .moves) (C·CostKind .kind) (B·Constrains .constraint) (now (query .entry)))) ⌝ }
+    ensures { result ≡ told (hindrance (asked F.Floor.moves C.CostKind.kind B.Constrains.constraint query.now) (length rows.old)) (label_total (asked F.Floor.moves C.CostKind.kind B.Constrains.constraint query.now)) }
 {
     let mut chart = Chart::blank();
     let mut starts = [0u16; 8321];
@@ -86,8 +83,8 @@ pub fn count_offers<F: Floor, C: CostKind, B: Constrains>(
     query: &Query<'_, F, C, B>,
     rows: &mut [LabelRow<C>],
 ) -> Result<u16, LabelRefusal>
-    ensures counted { λ r. ⌜ r ≡ told (hindrance (asked (F·Floor .moves) (C·CostKind .kind) (B·Constrains .constraint) (now (query .entry))) (length (now (rows .entry)))) (length (offers-of (asked (F·Floor .moves) (C·CostKind .kind) (B·Constrains .constraint) (now (query .entry))))) ⌝ }
-    ensures promise { λ r. ⌜ CountPromise (asked (F·Floor .moves) (C·CostKind .kind) (B·Constrains .constraint) (now (query .entry))) r ⌝ }
+    ensures counted { result ≡ told (hindrance (asked F.Floor.moves C.CostKind.kind B.Constrains.constraint query.now) (length rows.old)) (length (offers_of (asked F.Floor.moves C.CostKind.kind B.Constrains.constraint query.now))) }
+    ensures promise { CountPromise (asked F.Floor.moves C.CostKind.kind B.Constrains.constraint query.now) result }
 {
     let mut chart = Chart::blank();
     let mut starts = [0u16; 8321];
@@ -107,11 +104,11 @@ fn serve<F: Floor, C: CostKind, B: Constrains>(
     number: u16,
     places: &mut [u8],
 ) -> Option<C>
-    requires solved { ⌜ Solved (asked (F·Floor .moves) (C·CostKind .kind) (B·Constrains .constraint) (now query)) (now chart) (now rows) (now starts) end ⌝ }
-    requires table { ⌜ length (now starts) ≡ 8321 ⌝ }
-    requires long { ⌜ length (now places) ≡ now query .horizon + 1 ⌝ }
-    ensures answer { λ r. ⌜ r ≡ mapped (λ o. o .cost) (nth (offers-of (asked (F·Floor .moves) (C·CostKind .kind) (B·Constrains .constraint) (now (query .entry)))) number) ⌝ }
-    ensures written { λ _. ⌜ now (places .exit) ≡ walked (nth (offers-of (asked (F·Floor .moves) (C·CostKind .kind) (B·Constrains .constraint) (now (query .entry)))) number) (now (places .entry)) ⌝ }
+    requires solved { Solved (asked F.Floor.moves C.CostKind.kind B.Constrains.constraint query.now) chart.now rows.now starts.now end }
+    requires table { length starts.now ≡ 8321 }
+    requires long { length places.old ≡ query.now.horizon + 1 }
+    ensures answer { result ≡ option_map (λ o. o.cost) (slice_get (offers_of (asked F.Floor.moves C.CostKind.kind B.Constrains.constraint query.now)) number) }
+    ensures written { places.new ≡ walked (slice_get (offers_of (asked F.Floor.moves C.CostKind.kind B.Constrains.constraint query.now)) number) places.old }
 {
     let landing = landing_of(query, chart);
     let Some(offer) = find_offer(rows, starts, landing, end, number) else {
@@ -129,9 +126,9 @@ pub fn take_offer<F: Floor, C: CostKind, B: Constrains>(
     rows: &mut [LabelRow<C>],
     places: &mut [u8],
 ) -> Result<Option<C>, LabelRefusal>
-    ensures answer { λ r. ⌜ r ≡ cost-of (told (walk-hindrance (asked (F·Floor .moves) (C·CostKind .kind) (B·Constrains .constraint) (now (query .entry))) (length (now (rows .entry))) (length (now (places .entry)))) (nth (offers-of (asked (F·Floor .moves) (C·CostKind .kind) (B·Constrains .constraint) (now (query .entry)))) number)) ⌝ }
-    ensures written { λ _. ⌜ now (places .exit) ≡ walk-of (told (walk-hindrance (asked (F·Floor .moves) (C·CostKind .kind) (B·Constrains .constraint) (now (query .entry))) (length (now (rows .entry))) (length (now (places .entry)))) (nth (offers-of (asked (F·Floor .moves) (C·CostKind .kind) (B·Constrains .constraint) (now (query .entry)))) number)) (now (places .entry)) ⌝ }
-    ensures promise { λ r. ⌜ WalkPromise (asked (F·Floor .moves) (C·CostKind .kind) (B·Constrains .constraint) (now (query .entry))) number (now (places .exit)) r ⌝ }
+    ensures answer { result ≡ cost_of (told (walk_hindrance (asked F.Floor.moves C.CostKind.kind B.Constrains.constraint query.now) (length rows.old) (length places.old)) (slice_get (offers_of (asked F.Floor.moves C.CostKind.kind B.Constrains.constraint query.now)) number)) }
+    ensures written { places.new ≡ walk_of (told (walk_hindrance (asked F.Floor.moves C.CostKind.kind B.Constrains.constraint query.now) (length rows.old) (length places.old)) (slice_get (offers_of (asked F.Floor.moves C.CostKind.kind B.Constrains.constraint query.now)) number)) places.old }
+    ensures promise { WalkPromise (asked F.Floor.moves C.CostKind.kind B.Constrains.constraint query.now) number places.new result }
 {
     if places.len() != query.horizon as usize + 1 {
         return Err(LabelRefusal::WrongLength);

@@ -1,21 +1,17 @@
-ghost use mathlib.Core.Path.{_≡_};
-ghost use mathlib.Core.Bool.{true};
-ghost use mathlib.Core.List.{[], _∷_, _++_};
-ghost use Prim.Native.Nat.{_+_, _<_, _≤_};
-ghost use lib.ListN.{length, take, getD};
-ghost use Rattle·rules.specs.Fronts.{front-of};
-ghost use Rattle·labels·specs.Cells.{Ready, Grown};
-ghost use Rattle·labels·specs.Charting.{Charted};
-ghost use Rattle·labels·specs.Queries.{asked, row-of, place-count, may-be-at, reaching};
-ghost use Rattle·labels·specs.Rows.{shown, shown-row};
-ghost use Rattle·labels·specs.Tables.{Hold, Laid, cells-before};
+ghost use Rattle.std.specs.Prelude.{◌≡◌, ◌+◌, ◌<◌, ◌≤◌, true, [], ◌∷◌, ◌++◌, length, take, slice_index_or};
+ghost use Rattle.rules.specs.Fronts.{front_of};
+ghost use Rattle.labels.specs.Cells.{Ready, Grown};
+ghost use Rattle.labels.specs.Charting.{Charted};
+ghost use Rattle.labels.specs.Queries.{asked, row_of, place_count, may_be_at, reaching};
+ghost use Rattle.labels.specs.Rows.{shown, shown_row};
+ghost use Rattle.labels.specs.Tables.{Hold, Laid, cells_before};
+
 use crate::cell::Cell;
 use crate::gathering::gather_cell;
 use crate::layer::Layer;
 use crate::moves::next_label;
 use crate::query::Query;
-use crate::row::Hop;
-use crate::row::LabelRow;
+use crate::row::{Hop, LabelRow};
 use carts::Constrains;
 use charts::Chart;
 use costs::CostKind;
@@ -30,10 +26,10 @@ fn select_cell<F: Floor, C: CostKind, B: Constrains>(
     rows: &mut [LabelRow<C>],
     starts: &[u16],
 ) -> Option<usize>
-    requires ready { ⌜ Ready (asked (F·Floor .moves) (C·CostKind .kind) (B·Constrains .constraint) (now query)) cell (now rows) (now starts) (cell .start) ⌝ }
-    requires place { ⌜ cell .place < place-count (asked (F·Floor .moves) (C·CostKind .kind) (B·Constrains .constraint) (now query)) ⌝ }
-    requires charted { ⌜ Charted (asked (F·Floor .moves) (C·CostKind .kind) (B·Constrains .constraint) (now query)) (now chart) ⌝ }
-    ensures { λ r. ⌜ Grown (now (rows .entry)) (now (rows .exit)) (cell .start) (front-of (C·CostKind .kind) (reaching (asked (F·Floor .moves) (C·CostKind .kind) (B·Constrains .constraint) (now (query .entry))) (cell .tick) (cell .place))) r ⌝ }
+    requires ready { Ready (asked F.Floor.moves C.CostKind.kind B.Constrains.constraint query.now) cell rows.old starts.now cell.start }
+    requires place { cell.place < place_count (asked F.Floor.moves C.CostKind.kind B.Constrains.constraint query.now) }
+    requires charted { Charted (asked F.Floor.moves C.CostKind.kind B.Constrains.constraint query.now) chart.now }
+    ensures { Grown rows.old rows.new cell.start (front_of C.CostKind.kind (reaching (asked F.Floor.moves C.CostKind.kind B.Constrains.constraint query.now) cell.tick cell.place)) result }
 {
     let mut end = cell.start;
     while let Some(row) = next_label(query, chart, cell, rows, starts, end) {
@@ -54,10 +50,10 @@ fn fill_front<F: Floor, C: CostKind, B: Constrains>(
     rows: &mut [LabelRow<C>],
     starts: &[u16],
 ) -> Option<usize>
-    requires ready { ⌜ Ready (asked (F·Floor .moves) (C·CostKind .kind) (B·Constrains .constraint) (now query)) cell (now rows) (now starts) (cell .start) ⌝ }
-    requires place { ⌜ cell .place < place-count (asked (F·Floor .moves) (C·CostKind .kind) (B·Constrains .constraint) (now query)) ⌝ }
-    requires charted { ⌜ Charted (asked (F·Floor .moves) (C·CostKind .kind) (B·Constrains .constraint) (now query)) (now chart) ⌝ }
-    ensures { λ r. ⌜ Grown (now (rows .entry)) (now (rows .exit)) (cell .start) (front-of (C·CostKind .kind) (reaching (asked (F·Floor .moves) (C·CostKind .kind) (B·Constrains .constraint) (now (query .entry))) (cell .tick) (cell .place))) r ⌝ }
+    requires ready { Ready (asked F.Floor.moves C.CostKind.kind B.Constrains.constraint query.now) cell rows.old starts.now cell.start }
+    requires place { cell.place < place_count (asked F.Floor.moves C.CostKind.kind B.Constrains.constraint query.now) }
+    requires charted { Charted (asked F.Floor.moves C.CostKind.kind B.Constrains.constraint query.now) chart.now }
+    ensures { Grown rows.old rows.new cell.start (front_of C.CostKind.kind (reaching (asked F.Floor.moves C.CostKind.kind B.Constrains.constraint query.now) cell.tick cell.place)) result }
 {
     if let Some(end) = gather_cell(query, chart, cell, rows, starts) {
         return Some(end);
@@ -67,8 +63,8 @@ fn fill_front<F: Floor, C: CostKind, B: Constrains>(
 
 // One row more, if there is room.
 fn push_row<C: CostKind>(rows: &mut [LabelRow<C>], n: usize, row: LabelRow<C>) -> Option<usize>
-    requires { ⌜ n ≤ length (now rows) ⌝ }
-    ensures { λ r. ⌜ Grown (now (rows .entry)) (now (rows .exit)) n (shown-row (shown (take n (now (rows .entry)))) row ∷ []) r ⌝ }
+    requires { n ≤ length rows.old }
+    ensures { Grown rows.old rows.new n (shown_row (shown (take n rows.old)) row ∷ []) result }
 {
     if n == rows.len() {
         return None;
@@ -84,12 +80,12 @@ fn first_cell<F: Floor, C: CostKind, B: Constrains>(
     rows: &mut [LabelRow<C>],
     n: usize,
 ) -> Option<usize>
-    requires within { ⌜ n ≤ length (now rows) ⌝ }
-    requires few { ⌜ length (now rows) ≤ 65535 ⌝ }
-    requires known { ⌜ now query .cart < length (now (now query .carts)) ⌝ }
-    requires place { ⌜ place < place-count (asked (F·Floor .moves) (C·CostKind .kind) (B·Constrains .constraint) (now query)) ⌝ }
-    requires allowed { ⌜ may-be-at (asked (F·Floor .moves) (C·CostKind .kind) (B·Constrains .constraint) (now query)) place 0 ≡ true ⌝ }
-    ensures { λ r. ⌜ Grown (now (rows .entry)) (now (rows .exit)) n (getD (row-of (asked (F·Floor .moves) (C·CostKind .kind) (B·Constrains .constraint) (now (query .entry))) 0) place []) r ⌝ }
+    requires within { n ≤ length rows.old }
+    requires few { length rows.old ≤ 65535 }
+    requires known { query.now.cart < length query.now.carts.now }
+    requires place { place < place_count (asked F.Floor.moves C.CostKind.kind B.Constrains.constraint query.now) }
+    requires allowed { may_be_at (asked F.Floor.moves C.CostKind.kind B.Constrains.constraint query.now) place 0 ≡ true }
+    ensures { Grown rows.old rows.new n (slice_index_or (row_of (asked F.Floor.moves C.CostKind.kind B.Constrains.constraint query.now) 0) place []) result }
 {
     if place != query.carts[query.cart as usize].start {
         return Some(n);
@@ -112,16 +108,16 @@ fn later_cell<F: Floor, C: CostKind, B: Constrains>(
     starts: &[u16],
     n: usize,
 ) -> Option<usize>
-    requires later { ⌜ 0 < layer .tick ⌝ }
-    requires timely { ⌜ layer .tick ≤ 64 ⌝ }
-    requires few { ⌜ length (now rows) ≤ 65535 ⌝ }
-    requires place { ⌜ place < place-count (asked (F·Floor .moves) (C·CostKind .kind) (B·Constrains .constraint) (now query)) ⌝ }
-    requires allowed { ⌜ may-be-at (asked (F·Floor .moves) (C·CostKind .kind) (B·Constrains .constraint) (now query)) place (layer .tick) ≡ true ⌝ }
-    requires charted { ⌜ Charted (asked (F·Floor .moves) (C·CostKind .kind) (B·Constrains .constraint) (now query)) (now chart) ⌝ }
-    requires laid { ⌜ Laid (asked (F·Floor .moves) (C·CostKind .kind) (B·Constrains .constraint) (now query)) layer ⌝ }
-    requires table { ⌜ layer .base + place-count (asked (F·Floor .moves) (C·CostKind .kind) (B·Constrains .constraint) (now query)) < length (now starts) ⌝ }
-    requires held { ⌜ Hold (now rows) (now starts) (cells-before (asked (F·Floor .moves) (C·CostKind .kind) (B·Constrains .constraint) (now query)) (layer .tick) ++ take place (row-of (asked (F·Floor .moves) (C·CostKind .kind) (B·Constrains .constraint) (now query)) (layer .tick))) n ⌝ }
-    ensures { λ r. ⌜ Grown (now (rows .entry)) (now (rows .exit)) n (getD (row-of (asked (F·Floor .moves) (C·CostKind .kind) (B·Constrains .constraint) (now (query .entry))) (layer .tick)) place []) r ⌝ }
+    requires later { 0 < layer.tick }
+    requires timely { layer.tick ≤ 64 }
+    requires few { length rows.old ≤ 65535 }
+    requires place { place < place_count (asked F.Floor.moves C.CostKind.kind B.Constrains.constraint query.now) }
+    requires allowed { may_be_at (asked F.Floor.moves C.CostKind.kind B.Constrains.constraint query.now) place layer.tick ≡ true }
+    requires charted { Charted (asked F.Floor.moves C.CostKind.kind B.Constrains.constraint query.now) chart.now }
+    requires laid { Laid (asked F.Floor.moves C.CostKind.kind B.Constrains.constraint query.now) layer }
+    requires table { layer.base + place_count (asked F.Floor.moves C.CostKind.kind B.Constrains.constraint query.now) < length starts.now }
+    requires held { Hold rows.old starts.now (cells_before (asked F.Floor.moves C.CostKind.kind B.Constrains.constraint query.now) layer.tick ++ take place (row_of (asked F.Floor.moves C.CostKind.kind B.Constrains.constraint query.now) layer.tick)) n }
+    ensures { Grown rows.old rows.new n (slice_index_or (row_of (asked F.Floor.moves C.CostKind.kind B.Constrains.constraint query.now) layer.tick) place []) result }
 {
     let cell = Cell {
         tick: layer.tick - 1,
@@ -142,16 +138,16 @@ pub(crate) fn fill_cell<F: Floor, C: CostKind, B: Constrains>(
     starts: &[u16],
     n: usize,
 ) -> Option<usize>
-    requires few { ⌜ length (now rows) ≤ 65535 ⌝ }
-    requires known { ⌜ now query .cart < length (now (now query .carts)) ⌝ }
-    requires timely { ⌜ layer .tick ≤ 64 ⌝ }
-    requires place { ⌜ place < place-count (asked (F·Floor .moves) (C·CostKind .kind) (B·Constrains .constraint) (now query)) ⌝ }
-    requires charted { ⌜ Charted (asked (F·Floor .moves) (C·CostKind .kind) (B·Constrains .constraint) (now query)) (now chart) ⌝ }
-    requires laid { ⌜ Laid (asked (F·Floor .moves) (C·CostKind .kind) (B·Constrains .constraint) (now query)) layer ⌝ }
-    requires table { ⌜ layer .base + place-count (asked (F·Floor .moves) (C·CostKind .kind) (B·Constrains .constraint) (now query)) < length (now starts) ⌝ }
-    requires listed { ⌜ layer .base + place-count (asked (F·Floor .moves) (C·CostKind .kind) (B·Constrains .constraint) (now query)) ≤ 8320 ⌝ }
-    requires held { ⌜ Hold (now rows) (now starts) (cells-before (asked (F·Floor .moves) (C·CostKind .kind) (B·Constrains .constraint) (now query)) (layer .tick) ++ take place (row-of (asked (F·Floor .moves) (C·CostKind .kind) (B·Constrains .constraint) (now query)) (layer .tick))) n ⌝ }
-    ensures { λ r. ⌜ Grown (now (rows .entry)) (now (rows .exit)) n (getD (row-of (asked (F·Floor .moves) (C·CostKind .kind) (B·Constrains .constraint) (now (query .entry))) (layer .tick)) place []) r ⌝ }
+    requires few { length rows.old ≤ 65535 }
+    requires known { query.now.cart < length query.now.carts.now }
+    requires timely { layer.tick ≤ 64 }
+    requires place { place < place_count (asked F.Floor.moves C.CostKind.kind B.Constrains.constraint query.now) }
+    requires charted { Charted (asked F.Floor.moves C.CostKind.kind B.Constrains.constraint query.now) chart.now }
+    requires laid { Laid (asked F.Floor.moves C.CostKind.kind B.Constrains.constraint query.now) layer }
+    requires table { layer.base + place_count (asked F.Floor.moves C.CostKind.kind B.Constrains.constraint query.now) < length starts.now }
+    requires listed { layer.base + place_count (asked F.Floor.moves C.CostKind.kind B.Constrains.constraint query.now) ≤ 8320 }
+    requires held { Hold rows.old starts.now (cells_before (asked F.Floor.moves C.CostKind.kind B.Constrains.constraint query.now) layer.tick ++ take place (row_of (asked F.Floor.moves C.CostKind.kind B.Constrains.constraint query.now) layer.tick)) n }
+    ensures { Grown rows.old rows.new n (slice_index_or (row_of (asked F.Floor.moves C.CostKind.kind B.Constrains.constraint query.now) layer.tick) place []) result }
 {
     if chart.shut[layer.base + place as usize] {
         return Some(n);

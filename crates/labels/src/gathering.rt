@@ -1,26 +1,22 @@
-ghost use mathlib.Core.Path.{_≡_};
-ghost use Prim.Native.Nat.{_<_, _≤_};
-ghost use lib.ListN.{length, take, drop};
-ghost use Rattle·fronts.specs.Changes.{Adds};
-ghost use Rattle·fronts.specs.Rows.{entry-of, in-use};
-ghost use Rattle·rules.specs.Fronts.{front-of};
-ghost use Rattle·labels·specs.Cells.{Ready};
-ghost use Rattle·labels·specs.Charting.{Charted};
-ghost use Rattle·labels·specs.Gathers.{Gathering, Gathers, Gathered};
-ghost use Rattle·labels·specs.Queries.{asked, place-count, reaching};
-ghost use Rattle·labels·specs.Rows.{shown, extended-by};
+ghost use Rattle.std.specs.Prelude.{◌≡◌, ◌<◌, ◌≤◌, length, take, drop};
+ghost use Rattle.fronts.specs.Changes.{Adds};
+ghost use Rattle.fronts.specs.Rows.{entry_of, in_use};
+ghost use Rattle.rules.specs.Fronts.{front_of};
+ghost use Rattle.labels.specs.Cells.{Ready};
+ghost use Rattle.labels.specs.Charting.{Charted};
+ghost use Rattle.labels.specs.Gathers.{Gathering, Gathers, Gathered};
+ghost use Rattle.labels.specs.Queries.{asked, place_count, reaching};
+ghost use Rattle.labels.specs.Rows.{shown, extended_by};
+
 use crate::cell::Cell;
 use crate::moves::price_of;
 use crate::query::Query;
-use crate::row::Hop;
-use crate::row::LabelRow;
+use crate::row::{Hop, LabelRow};
 use carts::Constrains;
 use charts::Chart;
 use costs::CostKind;
 use floors::Floor;
-use fronts::Added;
-use fronts::Row;
-use fronts::add;
+use fronts::{Added, Row, add};
 
 // Adds a row to the front that stands from `start` on, and has `len` rows.
 fn add_row<C: CostKind>(
@@ -29,9 +25,9 @@ fn add_row<C: CostKind>(
     len: usize,
     row: LabelRow<C>,
 ) -> Added
-    requires { ⌜ start ≤ length (now rows) ⌝ }
-    ensures adds { λ r. ⌜ Adds (C·CostKind .kind) (in-use len (drop start (now (rows .entry)))) (entry-of row) (drop start (now (rows .entry))) (drop start (now (rows .exit))) r ⌝ }
-    ensures before { λ _. ⌜ take start (now (rows .exit)) ≡ take start (now (rows .entry)) ⌝ }
+    requires { start ≤ length rows.old }
+    ensures adds { Adds C.CostKind.kind (in_use len (drop start rows.old)) (entry_of row) (drop start rows.old) (drop start rows.new) result }
+    ensures before { take start rows.new ≡ take start rows.old }
 {
     add(&mut rows[start..], len, row)
 }
@@ -46,11 +42,11 @@ fn gather_run<C: CostKind>(
     price: C,
     place: u8,
 ) -> Option<usize>
-    requires run { ⌜ from ≤ to ⌝ }
-    requires before { ⌜ to ≤ start ⌝ }
-    requires few { ⌜ length (now rows) ≤ 65535 ⌝ }
-    requires front { ⌜ Gathering (shown (take start (now rows))) (now rows) start len ⌝ }
-    ensures { λ r. ⌜ Gathers (C·CostKind .kind) (now (rows .entry)) (now (rows .exit)) start len (extended-by (C·CostKind .kind) price place (drop from (take to (shown (take start (now (rows .entry))))))) r ⌝ }
+    requires run { from ≤ to }
+    requires before { to ≤ start }
+    requires few { length rows.old ≤ 65535 }
+    requires front { Gathering (shown (take start rows.old)) rows.old start len }
+    ensures { Gathers C.CostKind.kind rows.old rows.new start len (extended_by C.CostKind.kind price place (drop from (take to (shown (take start rows.old))))) result }
 {
     let mut len = len;
     for i in from..to {
@@ -81,10 +77,10 @@ pub(crate) fn gather_cell<F: Floor, C: CostKind, B: Constrains>(
     rows: &mut [LabelRow<C>],
     starts: &[u16],
 ) -> Option<usize>
-    requires ready { ⌜ Ready (asked (F·Floor .moves) (C·CostKind .kind) (B·Constrains .constraint) (now query)) cell (now rows) (now starts) (cell .start) ⌝ }
-    requires place { ⌜ cell .place < place-count (asked (F·Floor .moves) (C·CostKind .kind) (B·Constrains .constraint) (now query)) ⌝ }
-    requires charted { ⌜ Charted (asked (F·Floor .moves) (C·CostKind .kind) (B·Constrains .constraint) (now query)) (now chart) ⌝ }
-    ensures { λ r. ⌜ Gathered (now (rows .entry)) (now (rows .exit)) (cell .start) (front-of (C·CostKind .kind) (reaching (asked (F·Floor .moves) (C·CostKind .kind) (B·Constrains .constraint) (now (query .entry))) (cell .tick) (cell .place))) r ⌝ }
+    requires ready { Ready (asked F.Floor.moves C.CostKind.kind B.Constrains.constraint query.now) cell rows.old starts.now cell.start }
+    requires place { cell.place < place_count (asked F.Floor.moves C.CostKind.kind B.Constrains.constraint query.now) }
+    requires charted { Charted (asked F.Floor.moves C.CostKind.kind B.Constrains.constraint query.now) chart.now }
+    ensures { Gathered rows.old rows.new cell.start (front_of C.CostKind.kind (reaching (asked F.Floor.moves C.CostKind.kind B.Constrains.constraint query.now) cell.tick cell.place)) result }
 {
     let mut len = 0;
     let place = cell.place as usize;

@@ -1,9 +1,9 @@
-ghost use Prim.Native.Nat.{_<_, _≤_};
-ghost use lib.ListN.{length};
-ghost use Rattle·rules.specs.Instances.{goal-of};
-ghost use Rattle·labels·specs.Arrivals.{StandsFrom, LandingOf};
-ghost use Rattle·labels·specs.Charting.{Charted};
-ghost use Rattle·labels·specs.Queries.{asked, place-count};
+ghost use Rattle.std.specs.Prelude.{◌<◌, ◌≤◌, length};
+ghost use Rattle.rules.specs.Instances.{goal_of};
+ghost use Rattle.labels.specs.Arrivals.{StandsFrom, LandingOf};
+ghost use Rattle.labels.specs.Charting.{Charted};
+ghost use Rattle.labels.specs.Queries.{asked, place_count};
+
 use crate::landing::Landing;
 use crate::query::Query;
 use carts::Constrains;
@@ -16,11 +16,11 @@ fn stands_from<F: Floor, C: CostKind, B: Constrains>(
     query: &Query<'_, F, C, B>,
     chart: &Chart,
 ) -> u8
-    requires known { ⌜ now query .cart < length (now (now query .carts)) ⌝ }
-    requires inside { ⌜ goal-of ((asked (F·Floor .moves) (C·CostKind .kind) (B·Constrains .constraint) (now query)) .inst) (now query .cart) < place-count (asked (F·Floor .moves) (C·CostKind .kind) (B·Constrains .constraint) (now query)) ⌝ }
-    requires ticks { ⌜ now query .horizon ≤ 64 ⌝ }
-    requires charted { ⌜ Charted (asked (F·Floor .moves) (C·CostKind .kind) (B·Constrains .constraint) (now query)) (now chart) ⌝ }
-    ensures { λ r. ⌜ StandsFrom (asked (F·Floor .moves) (C·CostKind .kind) (B·Constrains .constraint) (now (query .entry))) r ⌝ }
+    requires known { query.now.cart < length query.now.carts.now }
+    requires inside { goal_of (asked F.Floor.moves C.CostKind.kind B.Constrains.constraint query.now).inst query.now.cart < place_count (asked F.Floor.moves C.CostKind.kind B.Constrains.constraint query.now) }
+    requires ticks { query.now.horizon ≤ 64 }
+    requires charted { Charted (asked F.Floor.moves C.CostKind.kind B.Constrains.constraint query.now) chart.now }
+    ensures { StandsFrom (asked F.Floor.moves C.CostKind.kind B.Constrains.constraint query.now) result }
 {
     let goal = query.carts[query.cart as usize].goal as usize;
     let places = query.floor.places() as usize;
@@ -39,11 +39,11 @@ pub(crate) fn landing_of<F: Floor, C: CostKind, B: Constrains>(
     query: &Query<'_, F, C, B>,
     chart: &Chart,
 ) -> Landing
-    requires known { ⌜ now query .cart < length (now (now query .carts)) ⌝ }
-    requires inside { ⌜ goal-of ((asked (F·Floor .moves) (C·CostKind .kind) (B·Constrains .constraint) (now query)) .inst) (now query .cart) < place-count (asked (F·Floor .moves) (C·CostKind .kind) (B·Constrains .constraint) (now query)) ⌝ }
-    requires ticks { ⌜ now query .horizon ≤ 64 ⌝ }
-    requires charted { ⌜ Charted (asked (F·Floor .moves) (C·CostKind .kind) (B·Constrains .constraint) (now query)) (now chart) ⌝ }
-    ensures { λ r. ⌜ LandingOf (asked (F·Floor .moves) (C·CostKind .kind) (B·Constrains .constraint) (now (query .entry))) r ⌝ }
+    requires known { query.now.cart < length query.now.carts.now }
+    requires inside { goal_of (asked F.Floor.moves C.CostKind.kind B.Constrains.constraint query.now).inst query.now.cart < place_count (asked F.Floor.moves C.CostKind.kind B.Constrains.constraint query.now) }
+    requires ticks { query.now.horizon ≤ 64 }
+    requires charted { Charted (asked F.Floor.moves C.CostKind.kind B.Constrains.constraint query.now) chart.now }
+    ensures { LandingOf (asked F.Floor.moves C.CostKind.kind B.Constrains.constraint query.now) result }
 {
     Landing {
         first: stands_from(query, chart),

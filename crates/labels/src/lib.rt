@@ -1,3 +1,5 @@
+#![tactic(auto)]
+
 mod calls;
 mod cell;
 mod cells;
@@ -14,10 +16,7 @@ mod rows;
 mod tables;
 mod walks;
 
-pub use calls::count_labels;
-pub use calls::count_offers;
-pub use calls::take_offer;
+pub use calls::{count_labels, count_offers, take_offer};
 pub use query::Query;
 pub use refusal::LabelRefusal;
-pub use row::Hop;
-pub use row::LabelRow;
+pub use row::{Hop, LabelRow};

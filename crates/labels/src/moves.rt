@@ -1,23 +1,20 @@
-ghost use mathlib.Core.Path.{_≡_};
-ghost use Prim.Native.Nat.{_<_};
-ghost use lib.ListN.{getD};
-ghost use Rattle·std.specs.declared.option.Option.the-variants.{None};
-ghost use Rattle·labels·specs.Cells.{Ready, Selects, brings};
-ghost use Rattle·labels·specs.Charting.{Charted};
-ghost use Rattle·labels·specs.Queries.{asked, place-count, reaching};
+ghost use Rattle.std.specs.Prelude.{◌≡◌, ◌<◌, None, slice_index_or};
+ghost use Rattle.labels.specs.Cells.{Ready, Selects, brings};
+ghost use Rattle.labels.specs.Charting.{Charted};
+ghost use Rattle.labels.specs.Queries.{asked, place_count, reaching};
+
 use crate::cell::Cell;
 use crate::query::Query;
 use crate::row::LabelRow;
 use crate::rows::along;
 use carts::Constrains;
-use charts::Chart;
-use charts::Inbound;
+use charts::{Chart, Inbound};
 use costs::CostKind;
 use floors::Floor;
 
 // What a tariff line costs.
 pub(crate) fn price_of<C: CostKind>(tariff: &[C], line: u16) -> C
-    ensures { λ r. ⌜ r ≡ getD (now (tariff .entry)) line (C·CostKind .kind .zero) ⌝ }
+    ensures { result ≡ slice_index_or tariff.now line C.CostKind.kind.zero }
 {
     if (line as usize) < tariff.len() {
         tariff[line as usize]
@@ -36,9 +33,9 @@ fn by_move<F: Floor, C: CostKind, B: Constrains>(
     end: usize,
     best: Option<LabelRow<C>>,
 ) -> Option<LabelRow<C>>
-    requires ready { ⌜ Ready (asked (F·Floor .moves) (C·CostKind .kind) (B·Constrains .constraint) (now query)) cell (now rows) (now starts) end ⌝ }
-    requires inside { ⌜ step .from < place-count (asked (F·Floor .moves) (C·CostKind .kind) (B·Constrains .constraint) (now query)) ⌝ }
-    ensures { λ r. ⌜ Selects (C·CostKind .kind) (now (rows .entry)) cell end best (brings (asked (F·Floor .moves) (C·CostKind .kind) (B·Constrains .constraint) (now (query .entry))) cell step) r ⌝ }
+    requires ready { Ready (asked F.Floor.moves C.CostKind.kind B.Constrains.constraint query.now) cell rows.now starts.now end }
+    requires inside { step.from < place_count (asked F.Floor.moves C.CostKind.kind B.Constrains.constraint query.now) }
+    ensures { Selects C.CostKind.kind rows.now cell end best (brings (asked F.Floor.moves C.CostKind.kind B.Constrains.constraint query.now) cell step) result }
 {
     let at = cell.base + step.from as usize;
     along(
@@ -62,10 +59,10 @@ pub(crate) fn next_label<F: Floor, C: CostKind, B: Constrains>(
     starts: &[u16],
     end: usize,
 ) -> Option<LabelRow<C>>
-    requires ready { ⌜ Ready (asked (F·Floor .moves) (C·CostKind .kind) (B·Constrains .constraint) (now query)) cell (now rows) (now starts) end ⌝ }
-    requires place { ⌜ cell .place < place-count (asked (F·Floor .moves) (C·CostKind .kind) (B·Constrains .constraint) (now query)) ⌝ }
-    requires charted { ⌜ Charted (asked (F·Floor .moves) (C·CostKind .kind) (B·Constrains .constraint) (now query)) (now chart) ⌝ }
-    ensures { λ r. ⌜ Selects (C·CostKind .kind) (now (rows .entry)) cell end None (reaching (asked (F·Floor .moves) (C·CostKind .kind) (B·Constrains .constraint) (now (query .entry))) (cell .tick) (cell .place)) r ⌝ }
+    requires ready { Ready (asked F.Floor.moves C.CostKind.kind B.Constrains.constraint query.now) cell rows.now starts.now end }
+    requires place { cell.place < place_count (asked F.Floor.moves C.CostKind.kind B.Constrains.constraint query.now) }
+    requires charted { Charted (asked F.Floor.moves C.CostKind.kind B.Constrains.constraint query.now) chart.now }
+    ensures { Selects C.CostKind.kind rows.now cell end None (reaching (asked F.Floor.moves C.CostKind.kind B.Constrains.constraint query.now) cell.tick cell.place) result }
 {
     let mut best = None;
     let place = cell.place as usize;

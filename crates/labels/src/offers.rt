@@ -1,21 +1,17 @@
-ghost use mathlib.Core.Path.{_≡_};
-ghost use mathlib.Core.Bool.{_&&_, not};
-ghost use Prim.Native.Nat.{_+_, _-_, _<_, _≤_};
-ghost use lib.ListN.{length, take, drop, getD};
-ghost use Rattle·std.specs.declared.option.Option.the-variants.{None};
-ghost use Rattle·std.specs.shelf.Maps.{nth};
-ghost use Rattle·rules.specs.Fronts.{front-of};
-ghost use Rattle·labels·specs.Landings.{Lands, row-costs, dominated-by, cell-of, run-of, standing, landed, Chooses, goes-first, shown-lead, Timely};
-ghost use Rattle·labels·specs.Picks.{dominated, comes-after, out-of-turn};
-ghost use Rattle·labels·specs.Rows.{shown};
-use crate::landing::Landing;
-use crate::landing::Offer;
+ghost use Rattle.std.specs.Prelude.{◌≡◌, ◌+◌, ◌-◌, ◌<◌, ◌≤◌, not, ◌&&◌, length, take, drop, None, slice_index};
+ghost use Rattle.std.specs.List.{slice_get};
+ghost use Rattle.rules.specs.Fronts.{front_of};
+ghost use Rattle.labels.specs.Landings.{Lands, row_costs, dominated_by, cell_of, run_of, standing, landed, Chooses, goes_first, shown_lead, Timely};
+ghost use Rattle.labels.specs.Picks.{dominated, comes_after, out_of_turn};
+ghost use Rattle.labels.specs.Rows.{shown};
+
+use crate::landing::{Landing, Offer};
 use crate::row::LabelRow;
 use costs::CostKind;
 
 // Whether `c` comes after the last cost taken.
 fn is_after<C: CostKind>(last: Option<C>, c: C) -> bool
-    ensures { λ r. ⌜ r ≡ comes-after (C·CostKind .kind) last c ⌝ }
+    ensures { result ≡ comes_after C.CostKind.kind last c }
 {
     match last {
         Some(b) => b.before(c),
@@ -25,8 +21,8 @@ fn is_after<C: CostKind>(last: Option<C>, c: C) -> bool
 
 // From which row to which the labels at the goal at a tick stand.
 fn run_at(starts: &[u16], landing: Landing, tick: u8) -> (usize, usize)
-    requires { ⌜ cell-of landing tick + 1 < length (now starts) ⌝ }
-    ensures { λ r. ⌜ r ≡ (getD (now (starts .entry)) (cell-of landing tick) 0, getD (now (starts .entry)) (cell-of landing tick + 1) 0) ⌝ }
+    requires { cell_of landing tick + 1 < length starts.now }
+    ensures { result ≡ (slice_index starts.now (cell_of landing tick), slice_index starts.now (cell_of landing tick + 1)) }
 {
     let at = tick as usize * landing.places as usize + landing.goal as usize;
     (starts[at] as usize, starts[at + 1] as usize)
@@ -34,16 +30,16 @@ fn run_at(starts: &[u16], landing: Landing, tick: u8) -> (usize, usize)
 
 // Whether a cost dominates another: it is at most it, and comes before it.
 fn undercuts<C: CostKind>(a: C, b: C) -> bool
-    ensures { λ r. ⌜ r ≡ (C·CostKind .kind .at-most a b && C·CostKind .kind .before a b) ⌝ }
+    ensures { result ≡ (C.CostKind.kind.at_most a b && C.CostKind.kind.before a b) }
 {
     a.at_most(b) && a.before(b)
 }
 
 // Whether the cost of some row from `from` to `to` dominates `c`.
 fn dominates<C: CostKind>(rows: &[LabelRow<C>], from: usize, to: usize, c: C) -> bool
-    requires run { ⌜ from ≤ to ⌝ }
-    requires within { ⌜ to ≤ length (now rows) ⌝ }
-    ensures { λ r. ⌜ r ≡ dominated-by (C·CostKind .kind) (row-costs (drop from (take to (now (rows .entry))))) c ⌝ }
+    requires run { from ≤ to }
+    requires within { to ≤ length rows.now }
+    ensures { result ≡ dominated_by C.CostKind.kind (row_costs (drop from (take to rows.now))) c }
 {
     for i in from..to {
         if undercuts(rows[i].cost, c) {
@@ -61,8 +57,8 @@ fn is_dominated<C: CostKind>(
     end: usize,
     c: C,
 ) -> bool
-    requires { ⌜ Lands (now rows) (now starts) landing end ⌝ }
-    ensures { λ r. ⌜ r ≡ dominated (C·CostKind .kind) (landed (now (starts .entry)) landing (shown (take end (now (rows .entry))))) c ⌝ }
+    requires { Lands rows.now starts.now landing end }
+    ensures { result ≡ dominated C.CostKind.kind (landed starts.now landing (shown (take end rows.now))) c }
 {
     for tick in landing.first..landing.horizon + 1 {
         let (from, to) = run_at(starts, landing, tick);
@@ -82,15 +78,15 @@ fn is_due<C: CostKind>(
     last: Option<C>,
     c: C,
 ) -> bool
-    requires { ⌜ Lands (now rows) (now starts) landing end ⌝ }
-    ensures { λ r. ⌜ r ≡ not (out-of-turn (C·CostKind .kind) last (landed (now (starts .entry)) landing (shown (take end (now (rows .entry))))) c) ⌝ }
+    requires { Lands rows.now starts.now landing end }
+    ensures { result ≡ not (out_of_turn C.CostKind.kind last (landed starts.now landing (shown (take end rows.now))) c) }
 {
     is_after(last, c) && !is_dominated(rows, starts, landing, end, c)
 }
 
 // Whether `c` comes before the best so far.
 fn goes_before<C: CostKind>(best: Option<Offer<C>>, c: C) -> bool
-    ensures { λ r. ⌜ r ≡ goes-first (C·CostKind .kind) best c ⌝ }
+    ensures { result ≡ goes_first C.CostKind.kind best c }
 {
     match best {
         Some(b) => c.before(b.cost),
@@ -108,8 +104,8 @@ fn is_better<C: CostKind>(
     best: Option<Offer<C>>,
     c: C,
 ) -> bool
-    requires { ⌜ Lands (now rows) (now starts) landing end ⌝ }
-    ensures { λ r. ⌜ r ≡ (goes-first (C·CostKind .kind) best c && not (out-of-turn (C·CostKind .kind) last (landed (now (starts .entry)) landing (shown (take end (now (rows .entry))))) c)) ⌝ }
+    requires { Lands rows.now starts.now landing end }
+    ensures { result ≡ (goes_first C.CostKind.kind best c && not (out_of_turn C.CostKind.kind last (landed starts.now landing (shown (take end rows.now))) c)) }
 {
     goes_before(best, c) && is_due(rows, starts, landing, end, last, c)
 }
@@ -124,11 +120,11 @@ fn by_tick<C: CostKind>(
     last: Option<C>,
     best: Option<Offer<C>>,
 ) -> Option<Offer<C>>
-    requires lands { ⌜ Lands (now rows) (now starts) landing end ⌝ }
-    requires tick { ⌜ tick ≤ landing .horizon ⌝ }
-    requires timely { ⌜ Timely landing best ⌝ }
-    ensures chosen { λ r. ⌜ Chooses (C·CostKind .kind) (now (rows .entry)) (now (starts .entry)) landing end last best (standing (landing .horizon - tick) (landing .goal) (run-of (now (starts .entry)) landing tick (shown (take end (now (rows .entry)))))) r ⌝ }
-    ensures timely { λ r. ⌜ Timely landing r ⌝ }
+    requires lands { Lands rows.now starts.now landing end }
+    requires tick { tick ≤ landing.horizon }
+    requires timely { Timely landing best }
+    ensures chosen { Chooses C.CostKind.kind rows.now starts.now landing end last best (standing (landing.horizon - tick) landing.goal (run_of starts.now landing tick (shown (take end rows.now)))) result }
+    ensures timely { Timely landing result }
 {
     let (from, to) = run_at(starts, landing, tick);
     let mut best = best;
@@ -153,9 +149,9 @@ fn next_offer<C: CostKind>(
     end: usize,
     last: Option<C>,
 ) -> Option<Offer<C>>
-    requires { ⌜ Lands (now rows) (now starts) landing end ⌝ }
-    ensures chosen { λ r. ⌜ Chooses (C·CostKind .kind) (now (rows .entry)) (now (starts .entry)) landing end last None (landed (now (starts .entry)) landing (shown (take end (now (rows .entry))))) r ⌝ }
-    ensures timely { λ r. ⌜ Timely landing r ⌝ }
+    requires { Lands rows.now starts.now landing end }
+    ensures chosen { Chooses C.CostKind.kind rows.now starts.now landing end last None (landed starts.now landing (shown (take end rows.now))) result }
+    ensures timely { Timely landing result }
 {
     let mut best = None;
     for tick in landing.first..landing.horizon + 1 {
@@ -172,9 +168,9 @@ pub(crate) fn find_offer<C: CostKind>(
     end: usize,
     number: u16,
 ) -> Option<Offer<C>>
-    requires { ⌜ Lands (now rows) (now starts) landing end ⌝ }
-    ensures found { λ r. ⌜ shown-lead landing (shown (take end (now (rows .entry)))) r ≡ nth (front-of (C·CostKind .kind) (landed (now (starts .entry)) landing (shown (take end (now (rows .entry)))))) number ⌝ }
-    ensures timely { λ r. ⌜ Timely landing r ⌝ }
+    requires { Lands rows.now starts.now landing end }
+    ensures found { shown_lead landing (shown (take end rows.now)) result ≡ slice_get (front_of C.CostKind.kind (landed starts.now landing (shown (take end rows.now)))) number }
+    ensures timely { Timely landing result }
 {
     let mut last = None;
     let mut n = 0;
@@ -195,8 +191,8 @@ pub(crate) fn count_all<C: CostKind>(
     landing: Landing,
     end: usize,
 ) -> usize
-    requires { ⌜ Lands (now rows) (now starts) landing end ⌝ }
-    ensures { λ r. ⌜ r ≡ length (front-of (C·CostKind .kind) (landed (now (starts .entry)) landing (shown (take end (now (rows .entry)))))) ⌝ }
+    requires { Lands rows.now starts.now landing end }
+    ensures { result ≡ length (front_of C.CostKind.kind (landed starts.now landing (shown (take end rows.now)))) }
 {
     let mut last = None;
     let mut n = 0;

@@ -1,19 +1,15 @@
-ghost use mathlib.Core.Path.{_≡_};
-ghost use mathlib.Core.Bool.{_&&_, not};
-ghost use Prim.Native.Nat.{_≤_};
-ghost use lib.ListN.{length, take, drop};
-ghost use Rattle·rules.specs.Fronts.{covered};
-ghost use Rattle·labels·specs.Picks.{picked};
-ghost use Rattle·labels·specs.Rows.{shown, shown-best, extended-by, leads};
-use crate::row::Hop;
-use crate::row::LabelRow;
+ghost use Rattle.std.specs.Prelude.{◌≡◌, ◌≤◌, not, ◌&&◌, length, take, drop};
+ghost use Rattle.rules.specs.Fronts.{covered};
+ghost use Rattle.labels.specs.Picks.{picked};
+ghost use Rattle.labels.specs.Rows.{shown, shown_best, extended_by, leads};
+
+use crate::row::{Hop, LabelRow};
 use costs::CostKind;
-use fronts::Row;
-use fronts::covers;
+use fronts::{Row, covers};
 
 // Whether `c` comes before the best so far.
 fn comes_first<C: CostKind>(best: Option<LabelRow<C>>, c: C) -> bool
-    ensures { λ r. ⌜ r ≡ leads (C·CostKind .kind) best c ⌝ }
+    ensures { result ≡ leads C.CostKind.kind best c }
 {
     match best {
         Some(b) => c.before(b.cost),
@@ -29,9 +25,9 @@ fn improves<C: CostKind>(
     best: Option<LabelRow<C>>,
     c: C,
 ) -> bool
-    requires cell { ⌜ start ≤ end ⌝ }
-    requires within { ⌜ end ≤ length (now rows) ⌝ }
-    ensures { λ r. ⌜ r ≡ (leads (C·CostKind .kind) best c && not (covered (C·CostKind .kind) (drop start (shown (take end (now (rows .entry))))) c)) ⌝ }
+    requires cell { start ≤ end }
+    requires within { end ≤ length rows.now }
+    ensures { result ≡ (leads C.CostKind.kind best c && not (covered C.CostKind.kind (drop start (shown (take end rows.now))) c)) }
 {
     comes_first(best, c) && !covers(&rows[start..end], end - start, c)
 }
@@ -48,12 +44,12 @@ pub(crate) fn along<C: CostKind>(
     place: u8,
     best: Option<LabelRow<C>>,
 ) -> Option<LabelRow<C>>
-    requires run { ⌜ from ≤ to ⌝ }
-    requires before { ⌜ to ≤ end ⌝ }
-    requires cell { ⌜ start ≤ end ⌝ }
-    requires within { ⌜ end ≤ length (now rows) ⌝ }
-    requires few { ⌜ length (now rows) ≤ 65535 ⌝ }
-    ensures { λ r. ⌜ shown-best (shown (take end (now (rows .entry)))) r ≡ picked (C·CostKind .kind) (covered (C·CostKind .kind) (drop start (shown (take end (now (rows .entry)))))) (shown-best (shown (take end (now (rows .entry)))) best) (extended-by (C·CostKind .kind) price place (drop from (take to (shown (take end (now (rows .entry))))))) ⌝ }
+    requires run { from ≤ to }
+    requires before { to ≤ end }
+    requires cell { start ≤ end }
+    requires within { end ≤ length rows.now }
+    requires few { length rows.now ≤ 65535 }
+    ensures { shown_best (shown (take end rows.now)) result ≡ picked C.CostKind.kind (covered C.CostKind.kind (drop start (shown (take end rows.now)))) (shown_best (shown (take end rows.now)) best) (extended_by C.CostKind.kind price place (drop from (take to (shown (take end rows.now))))) }
 {
     let mut best = best;
     for i in from..to {

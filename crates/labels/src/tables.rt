@@ -1,9 +1,8 @@
-ghost use mathlib.Core.Path.{_≡_};
-ghost use Prim.Native.Nat.{_+_, _<_, _≤_, suc};
-ghost use lib.ListN.{length};
-ghost use Rattle·labels·specs.Charting.{Charted};
-ghost use Rattle·labels·specs.Queries.{asked, place-count};
-ghost use Rattle·labels·specs.Tables.{Hold, Holding, Filled, Laid, cells-before};
+ghost use Rattle.std.specs.Prelude.{◌≡◌, suc, ◌+◌, ◌<◌, ◌≤◌, length};
+ghost use Rattle.labels.specs.Charting.{Charted};
+ghost use Rattle.labels.specs.Queries.{asked, place_count};
+ghost use Rattle.labels.specs.Tables.{Hold, Holding, Filled, Laid, cells_before};
+
 use crate::cells::fill_cell;
 use crate::layer::Layer;
 use crate::query::Query;
@@ -22,15 +21,15 @@ fn fill_tick<F: Floor, C: CostKind, B: Constrains>(
     starts: &mut [u16],
     n: usize,
 ) -> Option<usize>
-    requires few { ⌜ length (now rows) ≤ 65535 ⌝ }
-    requires known { ⌜ now query .cart < length (now (now query .carts)) ⌝ }
-    requires timely { ⌜ layer .tick ≤ 64 ⌝ }
-    requires charted { ⌜ Charted (asked (F·Floor .moves) (C·CostKind .kind) (B·Constrains .constraint) (now query)) (now chart) ⌝ }
-    requires laid { ⌜ Laid (asked (F·Floor .moves) (C·CostKind .kind) (B·Constrains .constraint) (now query)) layer ⌝ }
-    requires table { ⌜ layer .base + place-count (asked (F·Floor .moves) (C·CostKind .kind) (B·Constrains .constraint) (now query)) < length (now starts) ⌝ }
-    requires listed { ⌜ layer .base + place-count (asked (F·Floor .moves) (C·CostKind .kind) (B·Constrains .constraint) (now query)) ≤ 8320 ⌝ }
-    requires held { ⌜ Hold (now rows) (now starts) (cells-before (asked (F·Floor .moves) (C·CostKind .kind) (B·Constrains .constraint) (now query)) (layer .tick)) n ⌝ }
-    ensures { λ r. ⌜ Holding (now (rows .exit)) (now (starts .exit)) (cells-before (asked (F·Floor .moves) (C·CostKind .kind) (B·Constrains .constraint) (now (query .entry))) (suc (layer .tick))) r ⌝ }
+    requires few { length rows.old ≤ 65535 }
+    requires known { query.now.cart < length query.now.carts.now }
+    requires timely { layer.tick ≤ 64 }
+    requires charted { Charted (asked F.Floor.moves C.CostKind.kind B.Constrains.constraint query.now) chart.now }
+    requires laid { Laid (asked F.Floor.moves C.CostKind.kind B.Constrains.constraint query.now) layer }
+    requires table { layer.base + place_count (asked F.Floor.moves C.CostKind.kind B.Constrains.constraint query.now) < length starts.old }
+    requires listed { layer.base + place_count (asked F.Floor.moves C.CostKind.kind B.Constrains.constraint query.now) ≤ 8320 }
+    requires held { Hold rows.old starts.old (cells_before (asked F.Floor.moves C.CostKind.kind B.Constrains.constraint query.now) layer.tick) n }
+    ensures { Holding rows.new starts.new (cells_before (asked F.Floor.moves C.CostKind.kind B.Constrains.constraint query.now) (suc layer.tick)) result }
 {
     let mut n = n;
     for place in 0..query.floor.places() {
@@ -50,12 +49,12 @@ pub(crate) fn fill_labels<F: Floor, C: CostKind, B: Constrains>(
     rows: &mut [LabelRow<C>],
     starts: &mut [u16],
 ) -> Option<usize>
-    requires few { ⌜ length (now rows) ≤ 65535 ⌝ }
-    requires known { ⌜ now query .cart < length (now (now query .carts)) ⌝ }
-    requires ticks { ⌜ now query .horizon ≤ 64 ⌝ }
-    requires charted { ⌜ Charted (asked (F·Floor .moves) (C·CostKind .kind) (B·Constrains .constraint) (now query)) (now chart) ⌝ }
-    requires table { ⌜ length (now starts) ≡ 8321 ⌝ }
-    ensures { λ r. ⌜ Filled (asked (F·Floor .moves) (C·CostKind .kind) (B·Constrains .constraint) (now (query .entry))) (now (rows .exit)) (now (starts .exit)) r ⌝ }
+    requires few { length rows.old ≤ 65535 }
+    requires known { query.now.cart < length query.now.carts.now }
+    requires ticks { query.now.horizon ≤ 64 }
+    requires charted { Charted (asked F.Floor.moves C.CostKind.kind B.Constrains.constraint query.now) chart.now }
+    requires table { length starts.old ≡ 8321 }
+    ensures { Filled (asked F.Floor.moves C.CostKind.kind B.Constrains.constraint query.now) rows.new starts.new result }
 {
     let places = query.floor.places() as usize;
     starts[0] = 0;

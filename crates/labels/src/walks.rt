@@ -1,18 +1,15 @@
-ghost use mathlib.Core.Path.{_≡_};
-ghost use mathlib.Core.List.{reverse};
-ghost use Prim.Native.Nat.{_+_, _≤_};
-ghost use lib.ListN.{length};
-ghost use Rattle·labels·specs.Landings.{shown-offer};
-ghost use Rattle·labels·specs.Rows.{shown, trace-at};
-use crate::landing::Landing;
-use crate::landing::Offer;
+ghost use Rattle.std.specs.Prelude.{◌≡◌, ◌+◌, ◌≤◌, reverse, length};
+ghost use Rattle.labels.specs.Landings.{shown_offer};
+ghost use Rattle.labels.specs.Rows.{shown, trace_at};
+
+use crate::landing::{Landing, Offer};
 use crate::row::LabelRow;
 use costs::CostKind;
 
 // The places of a label from tick 0 on, by following parents back.
 fn write_trace<C: CostKind>(rows: &[LabelRow<C>], label: usize, places: &mut [u8])
-    requires { ⌜ length (trace-at (shown (now rows)) label) ≡ length (now places) ⌝ }
-    ensures { λ _. ⌜ now (places .exit) ≡ reverse (trace-at (shown (now (rows .entry))) label) ⌝ }
+    requires { length (trace_at (shown rows.now) label) ≡ length places.old }
+    ensures { places.new ≡ reverse (trace_at (shown rows.now) label) }
 {
     let mut row = label;
     let mut left = places.len();
@@ -30,10 +27,10 @@ pub(crate) fn write_walk<C: CostKind>(
     offer: Offer<C>,
     places: &mut [u8],
 )
-    requires long { ⌜ length (now places) ≡ landing .horizon + 1 ⌝ }
-    requires timely { ⌜ offer .tick ≤ landing .horizon ⌝ }
-    requires trace { ⌜ length (trace-at (shown (now rows)) (offer .label)) ≡ offer .tick + 1 ⌝ }
-    ensures { λ _. ⌜ now (places .exit) ≡ reverse (shown-offer landing (shown (now (rows .entry))) offer .item) ⌝ }
+    requires long { length places.old ≡ landing.horizon + 1 }
+    requires timely { offer.tick ≤ landing.horizon }
+    requires trace { length (trace_at (shown rows.now) offer.label) ≡ offer.tick + 1 }
+    ensures { places.new ≡ reverse (shown_offer landing (shown rows.now) offer).item }
 {
     places.fill(landing.goal);
     let moved = offer.tick as usize + 1;

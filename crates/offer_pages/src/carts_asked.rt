@@ -1,34 +1,20 @@
-ghost use mathlib.Core.Path.{_≡_};
-ghost use mathlib.Core.List.{_++_};
-ghost use Prim.Native.Nat.{_<_};
-ghost use lib.ListN.{length};
-ghost use Rattle·std.specs.Of.Vec.{vec-items};
-ghost use Rattle·std.specs.Vec.{made};
-ghost use Rattle·std.specs.shelf.Maps.{nth};
-ghost use Rattle·std.specs.declared.option.Option.the-variants.{None};
-ghost use Rattle·carts.specs.Carts.{constraint-of};
-ghost use Rattle·labels.specs.Answers.{walk-hindrance};
-ghost use Rattle·labels.specs.Queries.{asked, offers-of};
-ghost use Rattle·rules.specs.Instances.{cart-count};
-ghost use Rattle·offer_pages·specs.Carts.{Ready, CartAdded, option-text};
-ghost use Rattle·offer_pages·specs.Views.{meant};
-use crate::fault::Fault;
-use crate::fault::Stop;
-use crate::fault::StopFromAlloc;
-use crate::lines::heading;
-use crate::lines::push_cost;
-use crate::lines::push_places;
+ghost use Rattle.std.specs.Prelude.{◌≡◌, ◌<◌, ◌++◌, length, None, OnOk};
+ghost use Rattle.std.specs.List.{slice_get};
+ghost use Rattle.carts.specs.Carts.{constraint_of};
+ghost use Rattle.labels.specs.Answers.{walk_hindrance};
+ghost use Rattle.labels.specs.Queries.{asked, offers_of};
+ghost use Rattle.rules.specs.Instances.{cart_count};
+ghost use Rattle.offer_pages.specs.Carts.{Ready, CartAdded, option_text};
+ghost use Rattle.offer_pages.specs.Views.{meant};
+
+use crate::fault::{Fault, Stop};
+use crate::lines::{heading, push_cost, push_places};
 use crate::view::SiteView;
-use carts::ByItself;
 use carts::Constraint;
 use costs::CostKind;
 use floors::Floor;
-use labels::LabelRow;
-use labels::Query;
-use labels::count_offers;
-use labels::take_offer;
-use std::alloc::AllocError;
-use std::alloc::Global;
+use labels::{LabelRow, Query, count_offers, take_offer};
+use std::alloc::{AllocError, Global};
 
 // Adds the offer with a number.
 fn push_offer<F: Floor, C: CostKind>(
@@ -39,9 +25,9 @@ fn push_offer<F: Floor, C: CostKind>(
     places: &mut [u8],
     heap: Global,
 ) -> Result<(), AllocError>
-    requires free { ⌜ walk-hindrance (asked (F·Floor .moves) (C·CostKind .kind) constraint-of (now query)) (length (now rows)) (length (now places)) ≡ None ⌝ }
-    requires known { ⌜ number < length (offers-of (asked (F·Floor .moves) (C·CostKind .kind) constraint-of (now query))) ⌝ }
-    ensures { λ r. ⌜ made r (λ _. vec-items (now (out .exit)) ≡ vec-items (now (out .entry)) ++ option-text (C·Text .text) (nth (offers-of (asked (F·Floor .moves) (C·CostKind .kind) constraint-of (now (query .entry)))) number)) ⌝ }
+    requires free { walk_hindrance (asked F.Floor.moves C.CostKind.kind constraint_of query.now) (length rows.old) (length places.old) ≡ None }
+    requires known { number < length (offers_of (asked F.Floor.moves C.CostKind.kind constraint_of query.now)) }
+    ensures { OnOk result (out.new.items ≡ out.old.items ++ option_text C.Text.text (slice_get (offers_of (asked F.Floor.moves C.CostKind.kind constraint_of query.now)) number)) }
 {
     let Ok(offer) = take_offer(query, number, rows, places) else {
         unreachable()
@@ -60,9 +46,9 @@ pub(crate) fn push_cart<F: Floor, C: CostKind>(
     places: &mut [u8],
     heap: Global,
 ) -> Result<(), Stop>
-    requires ready { ⌜ Ready (meant (F·Floor .moves) (C·CostKind .kind) (now site)) (length (now rows)) (length (now places)) ⌝ }
-    requires known { ⌜ cart < cart-count (meant (F·Floor .moves) (C·CostKind .kind) (now site)) ⌝ }
-    ensures { λ r. ⌜ CartAdded (C·Text .text) (meant (F·Floor .moves) (C·CostKind .kind) (now (site .entry))) cart (vec-items (now (out .entry))) (vec-items (now (out .exit))) r ⌝ }
+    requires ready { Ready (meant F.Floor.moves C.CostKind.kind site.now) (length rows.old) (length places.old) }
+    requires known { cart < cart_count (meant F.Floor.moves C.CostKind.kind site.now) }
+    ensures { CartAdded C.Text.text (meant F.Floor.moves C.CostKind.kind site.now) cart out.old.items out.new.items result }
 {
     let query = Query {
         floor: site.floor,

@@ -1,10 +1,8 @@
-ghost use mathlib.Core.Path.{_≡_};
-ghost use Rattle·std.specs.Of.String.{string-bytes};
-ghost use Rattle·std.specs.Vec.{made};
-ghost use Rattle·offer_pages·specs.Faults.{fault-numbers, fault-text, refusal-line};
+ghost use Rattle.std.specs.Prelude.{◌≡◌, IfOk, string_bytes};
+ghost use Rattle.offer_pages.specs.Faults.{fault_numbers, fault_text, refusal_line};
+
 use crate::fault::Fault;
-use std::alloc::AllocError;
-use std::alloc::Global;
+use std::alloc::{AllocError, Global};
 
 // Four numbers in a line.
 fn refusal_line(
@@ -14,15 +12,15 @@ fn refusal_line(
     row: u16,
     heap: Global,
 ) -> Result<String, AllocError>
-    ensures { λ r. ⌜ made r (λ s. string-bytes s ≡ refusal-line number line carried row) ⌝ }
+    ensures { IfOk result (λ s. string_bytes s ≡ refusal_line number line carried row) }
 {
-    format!(heap, "RF {number} {line} {carried} {row}\n")
+    format!(in heap; "RF {number} {line} {carried} {row}\n")
 }
 
 impl Fault {
     // The refusal's number, the line that is not read, the number of the refusal that it carries, and that one's row; 0 where there is none.
     fn numbers(self) -> [u16; 4]
-        ensures { λ r. ⌜ r ≡ fault-numbers self ⌝ }
+        ensures { result ≡ fault_numbers self }
     {
         match self {
             Fault::Unread(refusal) => refusal.numbers(),
@@ -35,7 +33,7 @@ impl Fault {
 
     // The refusal in one line.
     pub(crate) fn text(self, heap: Global) -> Result<String, AllocError>
-        ensures { λ r. ⌜ made r (λ s. string-bytes s ≡ fault-text self) ⌝ }
+        ensures { IfOk result (λ s. string_bytes s ≡ fault_text self) }
     {
         let numbers = self.numbers();
         refusal_line(numbers[0], numbers[1], numbers[2], numbers[3], heap)

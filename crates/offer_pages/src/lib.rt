@@ -1,3 +1,5 @@
+#![tactic(auto)]
+
 mod carts_asked;
 mod checks;
 mod fault;
@@ -7,5 +9,4 @@ mod page;
 mod printing;
 mod view;
 
-pub use printing::MOST_BYTES;
-pub use printing::offer_page;
+pub use printing::{MOST_BYTES, offer_page};

@@ -1,26 +1,22 @@
-ghost use mathlib.Core.Path.{_≡_};
-ghost use mathlib.Core.List.{_++_};
-ghost use Rattle·std.specs.Of.String.{string-bytes};
-ghost use Rattle·std.specs.Of.Vec.{vec-items};
-ghost use Rattle·std.specs.Vec.{made};
-ghost use Rattle·sites.specs.Records.{numbers-text};
-ghost use Rattle·offer_pages·specs.Texts.{heading-text, number-text, cost-text, places-text};
+ghost use Rattle.std.specs.Prelude.{◌≡◌, ◌++◌, IfOk, string_bytes, OnOk};
+ghost use Rattle.sites.specs.Records.{numbers_text};
+ghost use Rattle.offer_pages.specs.Texts.{heading_text, number_text, cost_text, places_text};
+
 use costs::CostKind;
-use std::alloc::AllocError;
-use std::alloc::Global;
+use std::alloc::{AllocError, Global};
 
 // The line that begins a cart's offers.
 pub(crate) fn heading(cart: u8, count: u16, heap: Global) -> Result<String, AllocError>
-    ensures { λ r. ⌜ made r (λ s. string-bytes s ≡ heading-text cart count) ⌝ }
+    ensures { IfOk result (λ s. string_bytes s ≡ heading_text cart count) }
 {
-    format!(heap, "OF {cart} {count}\n")
+    format!(in heap; "OF {cart} {count}\n")
 }
 
 // A number after one space.
 fn spaced_number(number: u8, heap: Global) -> Result<String, AllocError>
-    ensures { λ r. ⌜ made r (λ s. string-bytes s ≡ number-text number) ⌝ }
+    ensures { IfOk result (λ s. string_bytes s ≡ number_text number) }
 {
-    format!(heap, " {number}")
+    format!(in heap; " {number}")
 }
 
 // Adds the line of an offer's cost.
@@ -29,7 +25,7 @@ pub(crate) fn push_cost<C: CostKind>(
     cost: C,
     heap: Global,
 ) -> Result<(), AllocError>
-    ensures { λ r. ⌜ made r (λ _. vec-items (now (out .exit)) ≡ vec-items (now (out .entry)) ++ cost-text (C·Text .text) cost) ⌝ }
+    ensures { OnOk result (out.new.items ≡ out.old.items ++ cost_text C.Text.text cost) }
 {
     let Some(len) = cost.text_len(usize::MAX) else {
         return Err(AllocError);
@@ -44,7 +40,7 @@ pub(crate) fn push_cost<C: CostKind>(
 
 // Adds each place after one space.
 fn push_numbers(out: &mut Vec<u8>, places: &[u8], heap: Global) -> Result<(), AllocError>
-    ensures { λ r. ⌜ made r (λ _. vec-items (now (out .exit)) ≡ vec-items (now (out .entry)) ++ numbers-text (now (places .entry))) ⌝ }
+    ensures { OnOk result (out.new.items ≡ out.old.items ++ numbers_text places.now) }
 {
     for n in 0..places.len() {
         let text = spaced_number(places[n], heap)?;
@@ -55,7 +51,7 @@ fn push_numbers(out: &mut Vec<u8>, places: &[u8], heap: Global) -> Result<(), Al
 
 // Adds the line of an offer's places.
 pub(crate) fn push_places(out: &mut Vec<u8>, places: &[u8], heap: Global) -> Result<(), AllocError>
-    ensures { λ r. ⌜ made r (λ _. vec-items (now (out .exit)) ≡ vec-items (now (out .entry)) ++ places-text (now (places .entry))) ⌝ }
+    ensures { OnOk result (out.new.items ≡ out.old.items ++ places_text places.now) }
 {
     out.extend_from_slice(b"QP")?;
     push_numbers(out, places, heap)?;

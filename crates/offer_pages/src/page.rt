@@ -1,28 +1,20 @@
-ghost use mathlib.Core.Path.{_≡_};
-ghost use Prim.Native.Nat.{_≤_};
-ghost use lib.ListN.{length};
-ghost use Rattle·std.specs.Of.Vec.{vec-len};
-ghost use Rattle·std.specs.Vec.{made};
-ghost use Rattle·offer_pages·specs.Carts.{Ready, PageAdded};
-ghost use Rattle·offer_pages·specs.Views.{meant};
+ghost use Rattle.std.specs.Prelude.{◌≡◌, ◌≤◌, length, IfOk, vec_len};
+ghost use Rattle.offer_pages.specs.Carts.{Ready, PageAdded};
+ghost use Rattle.offer_pages.specs.Views.{meant};
+
 use crate::carts_asked::push_cart;
-use crate::checks::lines_there;
-use crate::checks::on_floor;
-use crate::fault::Fault;
-use crate::fault::Stop;
-use crate::fault::StopFromAlloc;
+use crate::checks::{lines_there, on_floor};
+use crate::fault::{Fault, Stop};
 use crate::view::SiteView;
 use costs::CostKind;
 use floors::Floor;
 use fronts::Row;
-use labels::Hop;
-use labels::LabelRow;
-use std::alloc::AllocError;
-use std::alloc::Global;
+use labels::{Hop, LabelRow};
+use std::alloc::{AllocError, Global};
 
 // Rows for the labels of one cart.
 fn label_rows<C: CostKind>(heap: Global) -> Result<Vec<LabelRow<C>>, AllocError>
-    ensures { λ r. ⌜ made r (λ v. vec-len v ≡ 2048) ⌝ }
+    ensures { IfOk result (λ v. vec_len v ≡ 2048) }
 {
     let tag = Hop {
         parent: 0,
@@ -45,9 +37,9 @@ fn write_page<F: Floor, C: CostKind>(
     places: &mut [u8],
     heap: Global,
 ) -> Result<Vec<u8>, Stop>
-    requires ready { ⌜ Ready (meant (F·Floor .moves) (C·CostKind .kind) (now site)) (length (now rows)) (length (now places)) ⌝ }
-    requires few { ⌜ length (now (now site .carts)) ≤ 6 ⌝ }
-    ensures { λ r. ⌜ PageAdded (C·Text .text) (meant (F·Floor .moves) (C·CostKind .kind) (now (site .entry))) r ⌝ }
+    requires ready { Ready (meant F.Floor.moves C.CostKind.kind site.now) (length rows.old) (length places.old) }
+    requires few { length site.now.carts.now ≤ 6 }
+    ensures { PageAdded C.Text.text (meant F.Floor.moves C.CostKind.kind site.now) result }
 {
     let mut out = Vec::new(heap);
     for cart in 0..site.carts.len() as u8 {
@@ -61,9 +53,9 @@ pub(crate) fn page_of<F: Floor, C: CostKind>(
     site: &SiteView<'_, F, C>,
     heap: Global,
 ) -> Result<Vec<u8>, Stop>
-    requires ticks { ⌜ now site .horizon ≤ 64 ⌝ }
-    requires few { ⌜ length (now (now site .carts)) ≤ 6 ⌝ }
-    ensures { λ r. ⌜ PageAdded (C·Text .text) (meant (F·Floor .moves) (C·CostKind .kind) (now (site .entry))) r ⌝ }
+    requires ticks { site.now.horizon ≤ 64 }
+    requires few { length site.now.carts.now ≤ 6 }
+    ensures { PageAdded C.Text.text (meant F.Floor.moves C.CostKind.kind site.now) result }
 {
     if site.carts.len() < 1 {
         return Err(Stop::Refused(Fault::NoCart));

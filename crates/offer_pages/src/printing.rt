@@ -1,30 +1,15 @@
-ghost use mathlib.Core.Path.{_≡_};
-ghost use lib.ListN.{length};
-ghost use Rattle·std.specs.Of.Vec.{vec-items};
-ghost use Rattle·std.specs.Vec.{made};
-ghost use Rattle·offer_pages·specs.Pages.{PageMade};
-ghost use Rattle·offer_pages·specs.Printed.{Printed, OnePrint};
-use crate::fault::Fault;
-use crate::fault::Stop;
-use crate::fault::StopFromAlloc;
+ghost use Rattle.std.specs.Prelude.{◌≡◌, length, IfOk};
+ghost use Rattle.offer_pages.specs.Pages.{PageMade};
+ghost use Rattle.offer_pages.specs.Printed.{Printed, OnePrint};
+
+use crate::fault::{Fault, Stop};
 use crate::page::page_of;
 use crate::view::SiteView;
 use carts::Cart;
-use costs::Pair;
-use costs::PairKind;
-use costs::PairText;
-use costs::Total;
-use costs::TotalKind;
-use costs::TotalText;
-use costs::Worst;
-use costs::WorstKind;
-use costs::WorstText;
-use costs::pair::PairClone;
-use floors::LaneFloorFloor;
+use costs::{Pair, Total, Worst};
 use floors::LaneRow;
 use sites::read_site;
-use std::alloc::AllocError;
-use std::alloc::Global;
+use std::alloc::{AllocError, Global};
 
 // The most bytes that a site has.
 pub const MOST_BYTES: usize = 16_384;
@@ -37,10 +22,10 @@ fn page_in(
     carts: &mut [Cart],
     heap: Global,
 ) -> Result<Vec<u8>, Stop>
-    requires lanes { ⌜ length (now lanes) ≡ 1024 ⌝ }
-    requires tariff { ⌜ length (now tariff) ≡ 256 ⌝ }
-    requires carts { ⌜ length (now carts) ≡ 6 ⌝ }
-    ensures { λ r. ⌜ PageMade (now (bytes .entry)) r ⌝ }
+    requires lanes { length lanes.old ≡ 1024 }
+    requires tariff { length tariff.old ≡ 256 }
+    requires carts { length carts.old ≡ 6 }
+    ensures { PageMade bytes.now result }
 {
     let site = match read_site(bytes, lanes, tariff, carts) {
         Ok(site) => site,
@@ -59,7 +44,7 @@ fn page_in(
 
 // The page of the site that the bytes say.
 fn make_page(bytes: &[u8], heap: Global) -> Result<Vec<u8>, Stop>
-    ensures { λ r. ⌜ PageMade (now (bytes .entry)) r ⌝ }
+    ensures { PageMade bytes.now result }
 {
     let mut lanes = vec![in heap; LaneRow {
         from: 0,
@@ -83,8 +68,8 @@ fn make_page(bytes: &[u8], heap: Global) -> Result<Vec<u8>, Stop>
 // What is printed for a site's text: for each cart, as if it were alone, every cost of its walks that none undercuts, each with a walk of it;
 // or one line on the first thing that is wrong. It fails only for want of memory. Besides, for each text there is only one thing to print.
 pub fn offer_page(bytes: &[u8], heap: Global) -> Result<Vec<u8>, AllocError>
-    ensures printed { λ r. ⌜ made r (λ v. Printed (now (bytes .entry)) (vec-items v)) ⌝ }
-    ensures one_print { λ _. ⌜ OnePrint ⌝ }
+    ensures printed { IfOk result (λ v. Printed bytes.now v.items) }
+    ensures one_print { OnePrint }
 {
     match make_page(bytes, heap) {
         Ok(page) => Ok(page),

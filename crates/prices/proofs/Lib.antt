@@ -1,4 +1,1 @@
-pub mod Saying
-pub mod ZoneReads
-pub mod CostReads
 pub mod OnePrints

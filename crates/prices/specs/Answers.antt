@@ -1,37 +1,27 @@
 -- What is printed for every input: the page of the costs that it says, or one line on the first thing that is wrong with it.
 -- Assumes nothing.
-use mathlib.Core.Path.{_≡_}
-use mathlib.Core.List.{List}
-use Prim.Native.Nat.{ℕ, _<_, _≤_}
-use lib.ListN.{length}
-use Rattle·std.specs.Results.{isOk}
-use Rattle·std.specs.Orderings.{Decides}
-use Rattle·std.specs.Of.String.{string-bytes}
-use Rattle·std.specs.Of.Vec.{vec-items}
-use Rattle·std.specs.shelf.Lists.{Has}
-use Rattle·std.specs.declared.alloc.Global.{Global}
-use Rattle·std.specs.declared.vec.Vec.{Vec}
-use Rattle·std.specs.declared.result.Result.{Result}
-use Rattle·std.specs.declared.result.Result.the-variants.{Ok, Err}
-use Rattle·rules.specs.Kinds.{Kind}
-use Rattle·rules.specs.Fronts.{Front}
-use Rattle·prices·specs.declared.answer.Answer.{Answer}
-use Rattle·prices·specs.declared.answer.Answer.the-variants.{Page, NoPage}
-use Rattle·prices·specs.declared.refusal.Fault.the-variants.{TooManyBytes}
-use Rattle·prices·specs.declared.refusal.Refusal.{Refusal}
-use Rattle·prices·specs.declared.refusal.Stop.{Stop}
-use Rattle·prices·specs.declared.refusal.Stop.the-variants.{Memory, Refused}
-use Rattle·prices·specs.PriceLists.{said, WrongAt}
-use Rattle·prices·specs.Pages.{page}
-use Rattle·prices·specs.Refusals.{refusal-text}
+use Rattle.std.specs.Prelude.{◌≡◌, ℕ, ◌<◌, ◌≤◌, List, length, is_ok, Ok, Err, vec_items, string_bytes, Decides, Result, Vec}
+use Rattle.std.specs.List.{ContainsAt as Has}
+use Rattle.std.specs.declared.alloc.Global.{Global}
+use Rattle.rules.specs.Kinds.{Kind}
+use Rattle.rules.specs.Fronts.{Front}
+use Rattle.prices.specs.declared.answer.Answer.{Answer}
+use Rattle.prices.specs.declared.answer.Answer.TheVariants.{Page, NoPage}
+use Rattle.prices.specs.declared.refusal.Fault.TheVariants.{TooManyBytes}
+use Rattle.prices.specs.declared.refusal.Refusal.{Refusal}
+use Rattle.prices.specs.declared.refusal.Stop.{Stop}
+use Rattle.prices.specs.declared.refusal.Stop.TheVariants.{Memory, Refused}
+use Rattle.prices.specs.PriceLists.{said, WrongAt}
+use Rattle.prices.specs.Pages.{page}
+use Rattle.prices.specs.Refusals.{refusal_text}
 
 -- the bytes of a page, or of the line that says why there is none
 abbrev pub Output : Type 0
 Output = Result (List ℕ) (List ℕ)
 
 abbrev pub output : Answer → Output
-output (Page v) = Ok (vec-items v)
-output (NoPage s) = Err (string-bytes s)
+output (Page v) = Ok (vec_items v)
+output (NoPage s) = Err (string_bytes s)
 
 -- the input says costs, and the bytes are the page of their front: of those that no other dominates, each once, in the kind's order
 pub record PageOf {C : Type 0} (line text : C → List ℕ) (k : Kind C) (input out : List ℕ) : Type 0 where
@@ -44,20 +34,20 @@ pub record PageOf {C : Type 0} (line text : C → List ℕ) (k : Kind C) (input 
 
 -- the input has too many bytes, or else this is the first line at which it goes wrong
 pub data RefusedFor {C : Type 0} (line : C → List ℕ) (Large : List ℕ → Type 0) (input : List ℕ) (refusal : Refusal) : Type 0 where
-  too-many : 16384 < length input → refusal .line ≡ 0 → refusal .fault ≡ TooManyBytes → RefusedFor line Large input refusal
+  too_many : 16384 < length input → refusal.line ≡ 0 → refusal.fault ≡ TooManyBytes → RefusedFor line Large input refusal
   wrong : length input ≤ 16384 → WrongAt line Large input refusal → RefusedFor line Large input refusal
 
 module _ {C : Type 0} (line : C → List ℕ) (Large : List ℕ → Type 0) (text : C → List ℕ) (k : Kind C) where
   abbrev pub Answers : List ℕ → Output → Type 0
   Answers input (Ok out) = PageOf line text k input out
-  Answers input (Err out) = (refusal : Refusal) × RefusedFor line Large input refusal × (out ≡ refusal-text refusal)
+  Answers input (Err out) = (refusal : Refusal) × RefusedFor line Large input refusal × (out ≡ refusal_text refusal)
 
   -- a page is printed exactly for the inputs of at most 16,384 bytes that say costs
   abbrev pub PageExactly : Type 0
-  PageExactly = (input : List ℕ) (out : Output) → Answers input out → Decides (isOk out) ((length input ≤ 16384) × ((costs : List C) × (input ≡ said line costs)))
+  PageExactly = (input : List ℕ) (out : Output) → Answers input out → Decides (is_ok out) ((length input ≤ 16384) × ((costs : List C) × (input ≡ said line costs)))
 
   -- the same before the refusal is put into words; memory may be wanting at any time
   abbrev pub PageMade : List ℕ → Result (Vec ℕ Global) Stop → Type 0
-  PageMade input (Ok v) = PageOf line text k input (vec-items v)
+  PageMade input (Ok v) = PageOf line text k input (vec_items v)
   PageMade input (Err (Refused refusal)) = RefusedFor line Large input refusal
   PageMade input (Err Memory) = Unit {0}

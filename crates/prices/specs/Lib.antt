@@ -6,3 +6,6 @@ pub mod Pages
 pub mod Refusals
 pub mod Answers
 pub mod Printed
+pub mod CostReads
+pub mod Saying
+pub mod ZoneReads

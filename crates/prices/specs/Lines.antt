@@ -1,13 +1,9 @@
 -- The lines of a price list: how one cost stands on a line, and what reading a line says.
 -- Assumes nothing.
-use mathlib.Core.Path.{_≡_}
-use mathlib.Core.List.{List}
-use Prim.Native.Nat.{ℕ}
-use Rattle·std.specs.declared.result.Result.{Result}
-use Rattle·std.specs.declared.result.Result.the-variants.{Ok, Err}
-use Rattle·digits.specs.declared.numbers.ReadFault.{ReadFault}
-use Rattle·digits.specs.declared.numbers.ReadFault.the-variants.{Malformed, TooLarge}
-use Rattle·digits.specs.Splits.{Without}
+use Rattle.std.specs.Prelude.{◌≡◌, ℕ, List, Ok, Err, Result, ◌≢◌}
+use Rattle.digits.specs.declared.numbers.ReadFault.{ReadFault}
+use Rattle.digits.specs.declared.numbers.ReadFault.TheVariants.{Malformed, TooLarge}
+use Rattle.digits.specs.Splits.{Without}
 
 -- `line` is how a cost is written on its line; `Large` holds of what is of that form but for a number above the most.
 module _ {C : Type 0} (line : C → List ℕ) (Large : List ℕ → Type 0) where
@@ -21,4 +17,4 @@ module _ {C : Type 0} (line : C → List ℕ) (Large : List ℕ → Type 0) wher
   abbrev pub LineRead : List ℕ → Result C ReadFault → Type 0
   LineRead bs (Ok c) = bs ≡ line c
   LineRead bs (Err TooLarge) = Large bs
-  LineRead bs (Err Malformed) = ((c : C) → bs ≡ line c → ⊥) × (Large bs → ⊥)
+  LineRead bs (Err Malformed) = ((c : C) → bs ≢ line c) × (Large bs → ⊥)

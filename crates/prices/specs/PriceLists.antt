@@ -1,24 +1,17 @@
 -- Price lists: the bytes that say a list of costs, and where other bytes go wrong.
 -- Assumes nothing.
-use mathlib.Core.Path.{_≡_}
-use mathlib.Core.List.{List, [], _∷_, _++_}
-use Prim.Native.Nat.{ℕ, _+_, _<_}
-use lib.ListN.{length}
-use Rattle·std.specs.Of.Vec.{vec-items}
-use Rattle·std.specs.declared.alloc.Global.{Global}
-use Rattle·std.specs.declared.vec.Vec.{Vec}
-use Rattle·std.specs.declared.result.Result.{Result}
-use Rattle·std.specs.declared.result.Result.the-variants.{Ok, Err}
-use Rattle·fronts.specs.Rows.{entries}
-use Rattle·fronts.specs.Whole.{costs-of}
-use Rattle·fronts.specs.declared.row.Row.{Row}
-use Rattle·prices·specs.declared.refusal.Fault.{Fault}
-use Rattle·prices·specs.declared.refusal.Fault.the-variants.{Line, NoNewline, TooManyBytes, UnknownList}
-use Rattle·prices·specs.declared.refusal.Refusal.{Refusal}
-use Rattle·prices·specs.declared.refusal.Stop.{Stop}
-use Rattle·prices·specs.declared.refusal.Stop.the-variants.{Memory, Refused}
-use Rattle·digits.specs.Splits.{Without}
-use Rattle·prices·specs.Lines.{LineRead}
+use Rattle.std.specs.Prelude.{◌≡◌, ℕ, ◌+◌, ◌<◌, List, [], ◌∷◌, ◌++◌, length, Ok, Err, vec_items, Result, Vec}
+use Rattle.std.specs.declared.alloc.Global.{Global}
+use Rattle.fronts.specs.Rows.{entries}
+use Rattle.fronts.specs.Whole.{costs_of}
+use Rattle.fronts.specs.declared.row.Row.{Row}
+use Rattle.prices.specs.declared.refusal.Fault.{Fault}
+use Rattle.prices.specs.declared.refusal.Fault.TheVariants.{Line, NoNewline, TooManyBytes, UnknownList}
+use Rattle.prices.specs.declared.refusal.Refusal.{Refusal}
+use Rattle.prices.specs.declared.refusal.Stop.{Stop}
+use Rattle.prices.specs.declared.refusal.Stop.TheVariants.{Memory, Refused}
+use Rattle.digits.specs.Splits.{Without}
+use Rattle.prices.specs.Lines.{LineRead}
 
 -- each cost on a line of its own
 abbrev pub said : {C : Type 0} → (C → List ℕ) → List C → List ℕ
@@ -26,8 +19,8 @@ said line [] = []
 said line (c ∷ cs) = line c ++ (10 ∷ said line cs)
 
 -- the costs in some rows
-abbrev pub costs-in : {C : Type 0} → Vec (Row C ℕ) Global → List C
-costs-in v = costs-of (entries (vec-items v))
+abbrev pub costs_in : {C : Type 0} → Vec (Row C ℕ) Global → List C
+costs_in v = costs_of (entries (vec_items v))
 
 module _ {C : Type 0} (line : C → List ℕ) (Large : List ℕ → Type 0) where
   -- the bytes begin with a line that says no cost, or have bytes and no newline
@@ -42,17 +35,17 @@ module _ {C : Type 0} (line : C → List ℕ) (Large : List ℕ → Type 0) wher
     pub above : List C
     pub from : List ℕ
     pub parts : bs ≡ said line above ++ from
-    pub number : refusal .line ≡ length above + 1
-    pub wrong : BeginsWrong (refusal .fault) from
+    pub number : refusal.line ≡ length above + 1
+    pub wrong : BeginsWrong refusal.fault from
 
   -- bytes say at most one list; where they say one they go wrong nowhere; and they go wrong first at one line, in one way
   pub record OneReading : Type 0 where
-    pub one-list : (cs ds : List C) → said line cs ≡ said line ds → cs ≡ ds
-    pub not-both : (cs : List C) (refusal : Refusal) → WrongAt (said line cs) refusal → ⊥
-    pub one-refusal : (bs : List ℕ) (r s : Refusal) → WrongAt bs r → WrongAt bs s → r ≡ s
+    pub one_list : (cs ds : List C) → said line cs ≡ said line ds → cs ≡ ds
+    pub not_both : (cs : List C) (refusal : Refusal) → WrongAt (said line cs) refusal → ⊥
+    pub one_refusal : (bs : List ℕ) (r s : Refusal) → WrongAt bs r → WrongAt bs s → r ≡ s
 
   -- what reading a list says: the costs that it says, or where it goes wrong; memory may be wanting at any time
   abbrev pub ListRead : List ℕ → Result (Vec (Row C ℕ) Global) Stop → Type 0
-  ListRead bs (Ok v) = bs ≡ said line (costs-in v)
+  ListRead bs (Ok v) = bs ≡ said line (costs_in v)
   ListRead bs (Err (Refused refusal)) = WrongAt bs refusal
   ListRead bs (Err Memory) = Unit {0}

@@ -1,20 +1,17 @@
 -- Why no page is printed, in one line.
 -- Assumes nothing.
-use mathlib.Core.List.{List, _++_}
-use Prim.Native.Nat.{ℕ}
-use lib.Chars.{codes}
-use Rattle·std.specs.Written.{decimal}
-use Rattle·digits.specs.declared.numbers.ReadFault.the-variants.{Malformed, TooLarge}
-use Rattle·prices·specs.declared.refusal.Fault.{Fault}
-use Rattle·prices·specs.declared.refusal.Fault.the-variants.{Line, NoNewline, TooManyBytes, UnknownList}
-use Rattle·prices·specs.declared.refusal.Refusal.{Refusal}
+use Rattle.std.specs.Prelude.{ℕ, List, ◌++◌, codes, decimal}
+use Rattle.digits.specs.declared.numbers.ReadFault.TheVariants.{Malformed, TooLarge}
+use Rattle.prices.specs.declared.refusal.Fault.{Fault}
+use Rattle.prices.specs.declared.refusal.Fault.TheVariants.{Line, NoNewline, TooManyBytes, UnknownList}
+use Rattle.prices.specs.declared.refusal.Refusal.{Refusal}
 
-abbrev pub fault-text : Fault → List ℕ
-fault-text (Line Malformed) = codes "malformed"
-fault-text (Line TooLarge) = codes "number too large"
-fault-text NoNewline = codes "no newline at its end"
-fault-text TooManyBytes = codes "more than 16384 bytes"
-fault-text UnknownList = codes "unknown list, not costs or zones"
+abbrev pub fault_text : Fault → List ℕ
+fault_text (Line Malformed) = codes "malformed"
+fault_text (Line TooLarge) = codes "number too large"
+fault_text NoNewline = codes "no newline at its end"
+fault_text TooManyBytes = codes "more than 16384 bytes"
+fault_text UnknownList = codes "unknown list, not costs or zones"
 
-abbrev pub refusal-text : Refusal → List ℕ
-refusal-text r = codes "line " ++ (decimal (r .line) ++ (codes ": " ++ (fault-text (r .fault) ++ codes "\n")))
+abbrev pub refusal_text : Refusal → List ℕ
+refusal_text r = codes "line " ++ (decimal r.line ++ (codes ": " ++ (fault_text r.fault ++ codes "\n")))

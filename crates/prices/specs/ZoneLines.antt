@@ -1,21 +1,17 @@
 -- The lines of a list of zone sets: sixteen digits to the base 16, in lower case.
 -- Assumes nothing.
-use mathlib.Core.Path.{_≡_}
-use mathlib.Core.List.{List}
-use Prim.Native.Nat.{ℕ, _<_}
-use Rattle·std.specs.declared.option.Option.{Option}
-use Rattle·std.specs.declared.option.Option.the-variants.{Some, None}
-use Rattle·costs.specs.Texts.{hex-digit, hex-digits}
-use Rattle·costs.specs.declared.zones.Zones.{Zones}
+use Rattle.std.specs.Prelude.{◌≡◌, ℕ, ◌<◌, List, Some, None, Option, ◌≢◌}
+use Rattle.costs.specs.Texts.{hex_digit, hex_digits}
+use Rattle.costs.specs.declared.zones.Zones.{Zones}
 
-abbrev pub zones-line : Zones → List ℕ
-zones-line z = hex-digits 16 (z .bits)
+abbrev pub zones_line : Zones → List ℕ
+zones_line z = hex_digits 16 z.bits
 
 -- sixteen digits never say more than a set of zones can hold
-abbrev pub none-large : List ℕ → Type 0
-none-large bs = ⊥
+abbrev pub none_large : List ℕ → Type 0
+none_large bs = ⊥
 
 -- which digit the byte is, if any
 abbrev pub HexRead : ℕ → Option ℕ → Type 0
-HexRead b (Some d) = (d < 16) × (b ≡ hex-digit d)
-HexRead b None = (d : ℕ) → d < 16 → b ≡ hex-digit d → ⊥
+HexRead b (Some d) = (d < 16) × (b ≡ hex_digit d)
+HexRead b None = (d : ℕ) → d < 16 → b ≢ hex_digit d

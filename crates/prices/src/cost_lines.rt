@@ -1,22 +1,14 @@
-ghost use mathlib.Core.Path.{_≡_};
-ghost use Rattle·prices·specs.CostLines.{cost-line, CostLarge, both-read};
+ghost use Rattle.std.specs.Prelude.{◌≡◌};
+ghost use Rattle.prices.specs.CostLines.{cost_line, CostLarge, both_read};
+ghost use Rattle.prices.specs.CostReads.{cost_lines};
+
 use crate::priced::Priced;
-use costs::Pair;
-use costs::PairKind;
-use costs::PairText;
-use costs::Total;
-use costs::TotalKind;
-use costs::TotalText;
-use costs::Worst;
-use costs::WorstKind;
-use costs::WorstText;
-use digits::ReadFault;
-use digits::read_number;
-use digits::split_once;
+use costs::{Pair, Total, Worst};
+use digits::{ReadFault, read_number, split_once};
 
 // Both numbers, if both are read. That one is not a number comes before that one is too large.
 fn both(a: Result<u32, ReadFault>, b: Result<u32, ReadFault>) -> Result<(u32, u32), ReadFault>
-    ensures { λ r. ⌜ r ≡ both-read a b ⌝ }
+    ensures { result ≡ both_read a b }
 {
     match (a, b) {
         (Ok(m), Ok(n)) => Ok((m, n)),
@@ -27,10 +19,12 @@ fn both(a: Result<u32, ReadFault>, b: Result<u32, ReadFault>) -> Result<(u32, u3
     }
 }
 
-pub impl Priced for Pair<Total, Worst> as CostsPriced {
-    ghost line = { cost-line };
+impl Priced for Pair<Total, Worst> {
+    ghost line = { cost_line };
 
     ghost large = { CostLarge };
+
+    ghost lines = { cost_lines };
 
     fn read_line(bytes: &[u8]) -> Result<Pair<Total, Worst>, ReadFault> {
         let Some((left, right)) = split_once(bytes, b' ') else {

@@ -1,3 +1,5 @@
+#![tactic(auto)]
+
 mod answer;
 mod cost_lines;
 mod making;
@@ -10,8 +12,6 @@ mod refusal_text;
 mod zone_lines;
 
 pub use answer::Answer;
-pub use cost_lines::CostsPriced;
 pub use making::MOST_BYTES;
 pub use priced::Priced;
 pub use printing::front_page;
-pub use zone_lines::ZonesPriced;

@@ -1,23 +1,19 @@
-ghost use Rattle·std.specs.Vec.{made};
-ghost use Rattle·std.specs.shelf.Lists.{Has};
-ghost use Rattle·rules.specs.Fronts.{Front};
-ghost use Rattle·fronts.specs.Rows.{entries};
-ghost use Rattle·fronts.specs.Whole.{costs-of};
-ghost use Rattle·prices·specs.PriceLists.{costs-in};
-ghost use Rattle·prices·specs.Answers.{PageMade, Answers, output};
+ghost use Rattle.std.specs.Prelude.{IfOk};
+ghost use Rattle.std.specs.List.{ContainsAt as Has};
+ghost use Rattle.rules.specs.Fronts.{Front};
+ghost use Rattle.fronts.specs.Rows.{entries};
+ghost use Rattle.fronts.specs.Whole.{costs_of};
+ghost use Rattle.prices.specs.PriceLists.{costs_in};
+ghost use Rattle.prices.specs.Answers.{PageMade, Answers, output};
+
 use crate::answer::Answer;
 use crate::page::write_page;
 use crate::priced::Priced;
 use crate::reading::read_list;
-use crate::refusal::Fault;
-use crate::refusal::Refusal;
-use crate::refusal::Stop;
-use crate::refusal::StopFromAlloc;
+use crate::refusal::{Fault, Refusal, Stop};
 use costs::CostKind;
-use fronts::Row;
-use fronts::front_of;
-use std::alloc::AllocError;
-use std::alloc::Global;
+use fronts::{Row, front_of};
+use std::alloc::{AllocError, Global};
 
 // The most bytes that a price list has.
 pub const MOST_BYTES: usize = 16_384;
@@ -27,7 +23,7 @@ fn front_rows<C: CostKind>(
     given: &[Row<C, u16>],
     heap: Global,
 ) -> Result<Vec<Row<C, u16>>, AllocError>
-    ensures { λ r. ⌜ made r (λ v. Front (C·CostKind .kind) (Has (costs-of (entries (now (given .entry))))) (costs-in v)) ⌝ }
+    ensures { IfOk result (λ v. Front C.CostKind.kind (Has (costs_of (entries given.now))) (costs_in v)) }
 {
     let mut rows = Vec::from_slice(heap, given)?;
     let Some(kept) = front_of(given, rows.as_mut_slice()) else {
@@ -39,7 +35,7 @@ fn front_rows<C: CostKind>(
 
 // The page for a price list.
 fn make_page<C: Priced>(input: &[u8], heap: Global) -> Result<Vec<u8>, Stop>
-    ensures { λ r. ⌜ PageMade (C·Priced .line) (C·Priced .large) (C·Text .text) (C·CostKind .kind) (now (input .entry)) r ⌝ }
+    ensures { PageMade C.Priced.line C.Priced.large C.Text.text C.CostKind.kind input.now result }
 {
     if input.len() > MOST_BYTES {
         return Err(Stop::Refused(Refusal {
@@ -55,7 +51,7 @@ fn make_page<C: Priced>(input: &[u8], heap: Global) -> Result<Vec<u8>, Stop>
 
 // What is printed for a price list.
 pub(crate) fn answer_list<C: Priced>(input: &[u8], heap: Global) -> Result<Answer, AllocError>
-    ensures { λ r. ⌜ made r (λ a. Answers (C·Priced .line) (C·Priced .large) (C·Text .text) (C·CostKind .kind) (now (input .entry)) (output a)) ⌝ }
+    ensures { IfOk result (λ a. Answers C.Priced.line C.Priced.large C.Text.text C.CostKind.kind input.now (output a)) }
 {
     match make_page::<C>(input, heap) {
         Ok(page) => Ok(Answer::Page(page)),

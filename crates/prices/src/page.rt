@@ -1,19 +1,15 @@
-ghost use mathlib.Core.Path.{_≡_};
-ghost use mathlib.Core.List.{[], _∷_, _++_};
-ghost use Rattle·std.specs.Of.String.{string-bytes};
-ghost use Rattle·std.specs.Of.Vec.{vec-items};
-ghost use Rattle·std.specs.Vec.{made};
-ghost use Rattle·fronts.specs.Rows.{entries};
-ghost use Rattle·fronts.specs.Whole.{costs-of};
-ghost use Rattle·prices·specs.Pages.{page, tally-text};
+ghost use Rattle.std.specs.Prelude.{◌≡◌, [], ◌∷◌, ◌++◌, IfOk, string_bytes, OnOk};
+ghost use Rattle.fronts.specs.Rows.{entries};
+ghost use Rattle.fronts.specs.Whole.{costs_of};
+ghost use Rattle.prices.specs.Pages.{page, tally_text};
+
 use costs::CostKind;
 use fronts::Row;
-use std::alloc::AllocError;
-use std::alloc::Global;
+use std::alloc::{AllocError, Global};
 
 // Adds the cost's text and a newline.
 fn push_line<C: CostKind>(out: &mut Vec<u8>, cost: C, heap: Global) -> Result<(), AllocError>
-    ensures { λ r. ⌜ made r (λ _. vec-items (now (out .exit)) ≡ vec-items (now (out .entry)) ++ (C·Text .text cost ++ (10 ∷ []))) ⌝ }
+    ensures { OnOk result (out.new.items ≡ out.old.items ++ (C.Text.text cost ++ (10 ∷ []))) }
 {
     let Some(len) = cost.text_len(usize::MAX) else {
         return Err(AllocError);
@@ -27,9 +23,9 @@ fn push_line<C: CostKind>(out: &mut Vec<u8>, cost: C, heap: Global) -> Result<()
 
 // The last line of a page.
 fn tally(count: usize, read: usize, heap: Global) -> Result<String, AllocError>
-    ensures { λ r. ⌜ made r (λ s. string-bytes s ≡ tally-text count read) ⌝ }
+    ensures { IfOk result (λ s. string_bytes s ≡ tally_text count read) }
 {
-    format!(heap, "kept {count} of {read}\n")
+    format!(in heap; "kept {count} of {read}\n")
 }
 
 // The page for the rows that are kept of `read` costs.
@@ -38,7 +34,7 @@ pub(crate) fn write_page<C: CostKind>(
     read: usize,
     heap: Global,
 ) -> Result<Vec<u8>, AllocError>
-    ensures { λ r. ⌜ made r (λ v. vec-items v ≡ page (C·Text .text) (costs-of (entries (now (rows .entry)))) read) ⌝ }
+    ensures { IfOk result (λ v. v.items ≡ page C.Text.text (costs_of (entries rows.now)) read) }
 {
     let mut out = Vec::new(heap);
     for i in 0..rows.len() {

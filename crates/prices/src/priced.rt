@@ -1,6 +1,6 @@
-ghost use mathlib.Core.List.{List};
-ghost use Prim.Native.Nat.{ℕ};
-ghost use Rattle·prices·specs.Lines.{Lines, LineRead};
+ghost use Rattle.std.specs.Prelude.{ℕ, List};
+ghost use Rattle.prices.specs.Lines.{Lines, LineRead};
+
 use costs::CostKind;
 use digits::ReadFault;
 
@@ -12,9 +12,9 @@ pub trait Priced: CostKind {
     // What is of that form, but for a number above the most.
     ghost large: { List ℕ → Type 0 };
 
-    law lines: { Lines line large };
-
     // The cost that a line says; the line is given without its newline.
     fn read_line(bytes: &[u8]) -> Result<Self, ReadFault>
-        ensures { λ r. ⌜ LineRead line large (now (bytes .entry)) r ⌝ };
+        ensures { LineRead line large bytes.now result };
+
+    ghost lines: { Lines line large };
 }

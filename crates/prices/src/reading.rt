@@ -1,16 +1,14 @@
-ghost use Rattle·prices·specs.PriceLists.{ListRead};
+ghost use Rattle.prices.specs.PriceLists.{ListRead};
+
 use crate::priced::Priced;
-use crate::refusal::Fault;
-use crate::refusal::Refusal;
-use crate::refusal::Stop;
-use crate::refusal::StopFromRefused;
+use crate::refusal::{Fault, Refusal, Stop};
 use digits::split_once;
 use fronts::Row;
 use std::alloc::Global;
 
 // The costs that a price list says, in its order. Their tags say nothing.
 pub(crate) fn read_list<C: Priced>(input: &[u8], heap: Global) -> Result<Vec<Row<C, u16>>, Stop>
-    ensures { λ r. ⌜ ListRead (C·Priced .line) (C·Priced .large) (now (input .entry)) r ⌝ }
+    ensures { ListRead C.Priced.line C.Priced.large input.now result }
 {
     let mut rows = Vec::new(heap);
     let mut rest = input;

@@ -1,5 +1,6 @@
-ghost use mathlib.Core.Path.{_≡_};
-ghost use Rattle·prices·specs.declared.refusal.Stop.the-variants.{Memory};
+ghost use Rattle.std.specs.Prelude.{◌≡◌};
+ghost use Rattle.prices.specs.declared.refusal.Stop.TheVariants.{Memory};
+
 use digits::ReadFault;
 use std::alloc::AllocError;
 
@@ -26,18 +27,18 @@ pub enum Stop {
     Refused(Refusal),
 }
 
-pub impl From<AllocError> for Stop as StopFromAlloc {
-    ghost converts = { λ _ r. r ≡ Memory };
+impl From<AllocError> for Stop {
+    ghost from_gives = { λ _ r. r ≡ Memory };
 
     fn from(_e: AllocError) -> Stop {
         Stop::Memory
     }
 }
 
-pub impl<T: Drop> From<std::alloc::Refused<T>> for Stop as StopFromRefused {
-    ghost converts = { λ _ r. r ≡ Memory };
+impl<T: Drop> From<std::alloc::AllocFailed<T>> for Stop {
+    ghost from_gives = { λ _ r. r ≡ Memory };
 
-    fn from(_e: std::alloc::Refused<T>) -> Stop {
+    fn from(_e: std::alloc::AllocFailed<T>) -> Stop {
         Stop::Memory
     }
 }

@@ -1,16 +1,13 @@
-ghost use mathlib.Core.Path.{_≡_};
-ghost use Rattle·std.specs.Of.String.{string-bytes};
-ghost use Rattle·std.specs.Vec.{made};
-ghost use Rattle·prices·specs.Refusals.{fault-text, refusal-text};
-use crate::refusal::Fault;
-use crate::refusal::Refusal;
+ghost use Rattle.std.specs.Prelude.{◌≡◌, IfOk, string_bytes};
+ghost use Rattle.prices.specs.Refusals.{fault_text, refusal_text};
+
+use crate::refusal::{Fault, Refusal};
 use digits::ReadFault;
-use std::alloc::AllocError;
-use std::alloc::Global;
+use std::alloc::{AllocError, Global};
 
 impl Fault {
     fn text(&self) -> &'static str
-        ensures { λ r. ⌜ now r ≡ fault-text (now (self .entry)) ⌝ }
+        ensures { result.now ≡ fault_text self.now }
     {
         match *self {
             Fault::Line(ReadFault::Malformed) => "malformed",
@@ -25,10 +22,10 @@ impl Fault {
 impl Refusal {
     // The refusal in one line.
     pub(crate) fn text(&self, heap: Global) -> Result<String, AllocError>
-        ensures { λ r. ⌜ made r (λ s. string-bytes s ≡ refusal-text (now (self .entry))) ⌝ }
+        ensures { IfOk result (λ s. string_bytes s ≡ refusal_text self.now) }
     {
         let line = self.line;
         let why = self.fault.text();
-        format!(heap, "line {line}: {why}\n")
+        format!(in heap; "line {line}: {why}\n")
     }
 }

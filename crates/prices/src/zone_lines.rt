@@ -1,13 +1,13 @@
-ghost use Rattle·prices·specs.ZoneLines.{HexRead, zones-line, none-large};
+ghost use Rattle.prices.specs.ZoneLines.{HexRead, zones_line, none_large};
+ghost use Rattle.prices.specs.ZoneReads.{zones_lines};
+
 use crate::priced::Priced;
 use costs::Zones;
-use costs::ZonesKind;
-use costs::ZonesText;
 use digits::ReadFault;
 
 // The value of a digit to the base 16, in lower case.
 fn hex_value(byte: u8) -> Option<u64>
-    ensures { λ r. ⌜ HexRead byte r ⌝ }
+    ensures { HexRead byte result }
 {
     match byte {
         b'0'..=b'9' => Some((byte - b'0') as u64),
@@ -16,10 +16,12 @@ fn hex_value(byte: u8) -> Option<u64>
     }
 }
 
-pub impl Priced for Zones as ZonesPriced {
-    ghost line = { zones-line };
+impl Priced for Zones {
+    ghost line = { zones_line };
 
-    ghost large = { none-large };
+    ghost large = { none_large };
+
+    ghost lines = { zones_lines };
 
     fn read_line(bytes: &[u8]) -> Result<Zones, ReadFault> {
         if bytes.len() != 16 {

@@ -1,17 +1,12 @@
 -- The first element of a list that has a property: its number, and where it stands in lists that are joined.
 -- Assumes nothing.
-use mathlib.Core.Path.{_≡_, refl, ap, subst}
-use mathlib.Core.Bool.{Bool, true, cond}
-use mathlib.Core.List.{List, [], _∷_, _++_, map}
-use mathlib.Core.Logic.{_⊎_, inl, inr}
+use Rattle.std.proofs.Common.{◌≡◌, ℕ, zero, suc, ◌+◌, ◌<◌, ◌≤◌, Bool, true, cond, ◌⊎◌, List, [], ◌∷◌, ◌++◌, map, refl, ap, subst, inl, inr, arith}
 use mathlib.Core.Option.{some}
-use Prim.Native.Nat.{ℕ, zero, suc, _+_, _≤_, _<_}
-use native.Mathlib.Omega.{arith}
-use lib.ListN.{getElem?}
-use Rattle·std.specs.Iters.{counting}
-use Rattle·std.proofs.shelf.Tests.{cases-eq, cond-both}
-use Rattle·rules·specs.Offers.{joined-lists}
-use Rattle·rules·proofs.Members.{Any, none-is-not}
+use lib.ListN.{get_elem?}
+use Rattle.std.specs.List.{range_with_len}
+use Rattle.std.proofs.lemmas.Bool.{cases_eq, cond_both}
+use Rattle.rules.specs.Offers.{joined_lists}
+use Rattle.rules.proofs.Members.{Any, none_is_not}
 
 -- x is the first element of the list that has P
 abbrev pub First : {X : Type 0} → (X → Type 0) → List X → X → Type 0
@@ -20,67 +15,67 @@ First P (y ∷ ys) x = ((y ≡ x) × P y) ⊎ ((P y → ⊥) × First P ys x)
 
 -- no number below n has P
 abbrev NoLower : {X : Type 0} → (X → Type 0) → List X → ℕ → Type 0
-NoLower {X} P xs n = (k : ℕ) (y : X) → getElem? xs k ≡ some y → P y → n ≤ k
+NoLower {X} P xs n = (k : ℕ) (y : X) → get_elem? xs k ≡ some y → P y → n ≤ k
 
-pub same-at : {X : Type 0} (xs : List X) (n : ℕ) (x y : X) → getElem? xs n ≡ some x → getElem? xs n ≡ some y → x ≡ y
-same-at xs n x y at-x at-y = cc
+pub same_at : {X : Type 0} (xs : List X) (n : ℕ) (x y : X) → get_elem? xs n ≡ some x → get_elem? xs n ≡ some y → x ≡ y
+same_at xs n x y at_x at_y = cc
 
 module _ {X : Type 0} (P : X → Type 0) where
-  pub any-at : (xs : List X) (n : ℕ) (x : X) → getElem? xs n ≡ some x → P x → Any P xs
-  any-at [] n x e p = absurd (none-is-not x e)
-  any-at (y ∷ ys) zero x e p = let same : x ≡ y = cc in inl (rw same at p)
-  any-at (y ∷ ys) (suc n) x e p = inr (any-at ys n x e p)
+  pub any_at : (xs : List X) (n : ℕ) (x : X) → get_elem? xs n ≡ some x → P x → Any P xs
+  any_at [] n x e p = absurd (none_is_not x e)
+  any_at (y ∷ ys) zero x e p = let same : x ≡ y = cc in inl (rw same at p)
+  any_at (y ∷ ys) (suc n) x e p = inr (any_at ys n x e p)
 
-  pub any-number : (xs : List X) → Any P xs → (n : ℕ) × (x : X) × (getElem? xs n ≡ some x) × P x
-  any-number [] h = elim h [ ]
-  any-number (y ∷ ys) (inl p) = (0, y, refl, p)
-  any-number (y ∷ ys) (inr h) = let (n, x, at, p) = any-number ys h in (suc n, x, at, p)
+  pub any_number : (xs : List X) → Any P xs → (n : ℕ) × (x : X) × (get_elem? xs n ≡ some x) × P x
+  any_number [] h = elim h [ ]
+  any_number (y ∷ ys) (inl p) = (0, y, refl, p)
+  any_number (y ∷ ys) (inr h) = let (n, x, at, p) = any_number ys h in (suc n, x, at, p)
 
-  first-any : (xs : List X) (x : X) → First P xs x → Any P xs
-  first-any [] x h = elim h [ ]
-  first-any (y ∷ ys) x (inl h) = inl (h .1)
-  first-any (y ∷ ys) x (inr h) = inr (first-any ys x (h .1))
+  first_any : (xs : List X) (x : X) → First P xs x → Any P xs
+  first_any [] x h = elim h [ ]
+  first_any (y ∷ ys) x (inl h) = inl h.1
+  first_any (y ∷ ys) x (inr h) = inr (first_any ys x h.1)
 
-  no-lower-more : (y : X) (ys : List X) (n : ℕ) → (P y → ⊥) → NoLower P ys n → NoLower P (y ∷ ys) (suc n)
-  no-lower-more y ys n not-y low zero z e p = let same : z ≡ y = cc in absurd (not-y (rw same at p))
-  no-lower-more y ys n not-y low (suc k) z e p = omega (arith, low k z e p)
+  no_lower_more : (y : X) (ys : List X) (n : ℕ) → (P y → ⊥) → NoLower P ys n → NoLower P (y ∷ ys) (suc n)
+  no_lower_more y ys n not_y low zero z e p = let same : z ≡ y = cc in absurd (not_y (rw same at p))
+  no_lower_more y ys n not_y low (suc k) z e p = omega (arith, low k z e p)
 
-  pub first-at : (xs : List X) (x : X) → First P xs x → (n : ℕ) × (getElem? xs n ≡ some x) × P x × NoLower P xs n
-  first-at [] x h = elim h [ ]
-  first-at (y ∷ ys) x (inl h) = (0, ap some (h .0), subst P (h .0) (h .1), λ k z e p. omega arith)
-  first-at (y ∷ ys) x (inr h) = let (n, at, p, low) = first-at ys x (h .1) in (suc n, at, p, no-lower-more y ys n (h .0) low)
+  pub first_at : (xs : List X) (x : X) → First P xs x → (n : ℕ) × (get_elem? xs n ≡ some x) × P x × NoLower P xs n
+  first_at [] x h = elim h [ ]
+  first_at (y ∷ ys) x (inl h) = (0, ap some h.0, subst P h.0 h.1, λ k z e p. omega arith)
+  first_at (y ∷ ys) x (inr h) = let (n, at, p, low) = first_at ys x h.1 in (suc n, at, p, no_lower_more y ys n h.0 low)
 
-  first-append : (xs ys : List X) (x : X) → First P (xs ++ ys) x → First P xs x ⊎ ((Any P xs → ⊥) × First P ys x)
-  first-append [] ys x h = inr (λ none. elim none [ ], h)
-  first-append (z ∷ xs) ys x (inl h) = inl (inl h)
-  first-append (z ∷ xs) ys x (inr h) =
-      elim (first-append xs ys x (h .1)) [
-        | inl here ↦ inl (inr (h .0, here))
-        | inr later ↦ inr (λ any. elim any [ inl p ↦ h .0 p | inr q ↦ later .0 q ], later .1)
+  first_append : (xs ys : List X) (x : X) → First P (xs ++ ys) x → First P xs x ⊎ ((Any P xs → ⊥) × First P ys x)
+  first_append [] ys x h = inr (λ none. elim none [ ], h)
+  first_append (z ∷ xs) ys x (inl h) = inl (inl h)
+  first_append (z ∷ xs) ys x (inr h) =
+      elim (first_append xs ys x h.1) [
+        | inl here ↦ inl (inr (h.0, here))
+        | inr later ↦ inr (λ any. elim any [ inl p ↦ h.0 p | inr q ↦ later.0 q ], later.1)
       ]
 
   -- the first in joined lists is the first of the first list that has one
-  pub first-joined : {Y : Type 0} (g : Y → List X) (ys : List Y) (x : X) → First P (joined-lists (map g ys)) x →
+  pub first_joined : {Y : Type 0} (g : Y → List X) (ys : List Y) (x : X) → First P (joined_lists (map g ys)) x →
       (y : Y) × First (λ z. Any P (g z)) ys y × First P (g y) x
-  first-joined g [] x h = elim h [ ]
-  first-joined g (y ∷ ys) x h =
-      elim (first-append (g y) (joined-lists (map g ys)) x h) [
-        | inl here ↦ (y, inl (refl, first-any (g y) x here), here)
-        | inr later ↦ let (z, first, there) = first-joined g ys x (later .1) in (z, inr (later .0, first), there)
+  first_joined g [] x h = elim h [ ]
+  first_joined g (y ∷ ys) x h =
+      elim (first_append (g y) (joined_lists (map g ys)) x h) [
+        | inl here ↦ (y, inl (refl, first_any (g y) x here), here)
+        | inr later ↦ let (z, first, there) = first_joined g ys x later.1 in (z, inr (later.0, first), there)
       ]
 
-  pub first-map : {Y : Type 0} (g : Y → X) (ys : List Y) (x : X) → First P (map g ys) x → (y : Y) × First (λ z. P (g z)) ys y × (g y ≡ x)
-  first-map g [] x h = elim h [ ]
-  first-map g (y ∷ ys) x (inl h) = (y, inl (refl, h .1), h .0)
-  first-map g (y ∷ ys) x (inr h) = let (z, first, e) = first-map g ys x (h .1) in (z, inr (h .0, first), e)
+  pub first_map : {Y : Type 0} (g : Y → X) (ys : List Y) (x : X) → First P (map g ys) x → (y : Y) × First (λ z. P (g z)) ys y × (g y ≡ x)
+  first_map g [] x h = elim h [ ]
+  first_map g (y ∷ ys) x (inl h) = (y, inl (refl, h.1), h.0)
+  first_map g (y ∷ ys) x (inr h) = let (z, first, e) = first_map g ys x h.1 in (z, inr (h.0, first), e)
 
-  pub first-cond : (b : Bool) (xs : List X) (x : X) → First P (cond b xs []) x → (b ≡ true) × First P xs x
-  first-cond b xs x = cond-both b xs [] (λ l. First P l x → (b ≡ true) × First P xs x) (λ e h. (e, h)) (λ e h. elim h [ ])
+  pub first_cond : (b : Bool) (xs : List X) (x : X) → First P (cond b xs []) x → (b ≡ true) × First P xs x
+  first_cond b xs x = cond_both b xs [] (λ l. First P l x → (b ≡ true) × First P xs x) (λ e h. (e, h)) (λ e h. elim h [ ])
 
 -- the first of the numbers from a on
-pub first-counting : (P : ℕ → Type 0) (a n x : ℕ) → First P (counting a n) x → (x < a + n) × ((k : ℕ) → a ≤ k → k < a + n → P k → x ≤ k)
-first-counting P a zero x h = elim h [ ]
-first-counting P a (suc n) x (inl h) = (omega (arith, h .0), λ k l u p. omega (arith, h .0))
-first-counting P a (suc n) x (inr h) =
-    let (inside, low) = first-counting P (a + 1) n x (h .1) in
-    (omega arith, λ k l u p. elim (cases-eq a k) [ inl e ↦ absurd (h .0 (rw e p)) | inr later ↦ low k (omega arith) (omega arith) p ])
+pub first_counting : (P : ℕ → Type 0) (a n x : ℕ) → First P (range_with_len a n) x → (x < a + n) × ((k : ℕ) → a ≤ k → k < a + n → P k → x ≤ k)
+first_counting P a zero x h = elim h [ ]
+first_counting P a (suc n) x (inl h) = (omega (arith, h.0), λ k l u p. omega (arith, h.0))
+first_counting P a (suc n) x (inr h) =
+    let (inside, low) = first_counting P (a + 1) n x h.1 in
+    (omega arith, λ k l u p. elim (cases_eq a k) [ inl e ↦ absurd (h.0 (rw e p)) | inr later ↦ low k (omega arith) (omega arith) p ])

@@ -1,176 +1,170 @@
 -- A turn comes to exactly what the turn rule says.
 -- Assumes nothing.
-use mathlib.Core.Path.{_≡_, refl, sym, ap, subst, _∙_}
-use mathlib.Core.Bool.{Bool, true, false, cond}
-use mathlib.Core.List.{List, [], _∷_, map}
-use mathlib.Core.Logic.{inl, inr}
+use Rattle.std.proofs.Common.{◌≡◌, ℕ, ◌<◌, ◌≤◌, Bool, true, false, cond, ltb, leb, List, [], ◌∷◌, map, length, set, sym, refl, ap, ◌∙◌, subst, inl, inr, arith}
 use mathlib.Core.Option.{Option, none, some}
-use Prim.Native.Nat.{ℕ, _≤_, _<_}
-use native.Mathlib.Omega.{arith}
-use lib.Dec.{leb, ltb}
-use lib.ListN.{length, getElem?, set}
-use Rattle·std.specs.Iters.{counting}
-use Rattle·std.proofs.shelf.Elements.{all-has, all-map}
-use Rattle·std.proofs.shelf.Tests.{cond-both, cond-true, cond-false, cases-bool, cases-lt, both-ways, ltb-true, ltb-false, lt-ltb, le-ltb, leb-true, leb-false, le-leb, lt-leb}
-use Rattle·rules·specs.Fronts.{covered}
-use Rattle·rules·specs.Instances.{Instance, cart-count}
-use Rattle·rules·specs.Offers.{Label, offers, label-count}
-use Rattle·rules·specs.Plans.{Conflict, first-conflict}
-use Rattle·rules·specs.Search.{Phase, at-branch, seeking, done, Branching, Search, Limits, labels-exceeded, Turned, stopped, went, standing, with-offer, turned-over, branch-cost, list-or-branch, examine, put-back, take-next, seek-offer, all-fit, seek-root, seek, turn-in, turn}
-use Rattle·rules·specs.Turns.{its-cart, next-number, to-second, Beaten, staying, Fits, NoneNext, Former, AtBranch, drops, lists, no-list-row, branches, no-trail-row, AtBranching, many-labels, takes, many-labels-below, no-former, turns-over, ends, AtRoots, many-labels-free, moves-on, Rule, at-a-branch, at-a-branching, at-the-roots, at-the-end, TurnsRight}
-use Rattle·rules·proofs.Members.{at-place, at-past}
-use Rattle·rules·proofs.Fronts.{covered-true, covered-false, covered-cost}
-use Rattle·rules·proofs.Conflicts.{is-first, is-none, first-conflict-right}
-use Rattle·rules·proofs.RootTurns.{next-root-is, not-all-fit, all-fit-few, one-next-root}
+use lib.ListN.{get_elem?}
+use Rattle.std.specs.List.{range_with_len}
+use Rattle.std.proofs.ByRecursion.{all-has, All-map}
+use Rattle.std.proofs.lemmas.Bool.{cond_both, cond-true, cond-false, cases_Bool, cases_lt, both_ways, ltb-true, ltb-false, lt-ltb, le-ltb, leb-true, leb-false, le-leb, lt-leb}
+use Rattle.rules.specs.Fronts.{covered}
+use Rattle.rules.specs.Instances.{Instance, cart_count}
+use Rattle.rules.specs.Offers.{Label, offers, label_count}
+use Rattle.rules.specs.Plans.{Conflict, first_conflict}
+use Rattle.rules.specs.Search.{Phase, at_branch, seeking, done, Branching, Search, Limits, labels_exceeded, Turned, stopped, went, standing, with_offer, turned_over, branch_cost, list_or_branch, examine, put_back, take_next, seek_offer, all_fit, seek_root, seek, turn_in, turn}
+use Rattle.rules.specs.Turns.{its_cart, next_number, to_second, Beaten, staying, Fits, NoneNext, Former, AtBranch, drops, lists, no_list_row, branches, no_trail_row, AtBranching, many_labels, takes, many_labels_below, no_former, turns_over, ends, AtRoots, many_labels_free, moves_on, Rule, at_a_branch, at_a_branching, at_the_roots, at_the_end, TurnsRight}
+use Rattle.rules.proofs.Members.{at_place, at_past}
+use Rattle.rules.proofs.Fronts.{covered_true, covered_false, covered-cost}
+use Rattle.rules.proofs.Conflicts.{is_first, is_none, first_conflict_right}
+use Rattle.rules.proofs.RootTurns.{next_root_is, not_all_fit, all_fit-few, one_next_root}
 
-past-none : {X : Type 0} (xs : List X) (n : ℕ) → length xs ≤ n → (o : Option X) → getElem? xs n ≡ o → o ≡ none
-past-none xs n past none e = refl
-past-none xs n past (some x) e = absurd (omega (arith, at-place xs n x e .0))
+past_none : {X : Type 0} (xs : List X) (n : ℕ) → length xs ≤ n → (o : Option X) → get_elem? xs n ≡ o → o ≡ none
+past_none xs n past none e = refl
+past_none xs n past (some x) e = absurd (omega (arith, (at_place xs n x e).0))
 
 module _ {C : Type 0} (i : Instance C) (room : Limits) where
   module _ (q : Search C) where
-    abbrev is-covered : Bool
-    is-covered = covered (i .kind) (q .listed) (branch-cost i q)
+    abbrev is_covered : Bool
+    is_covered = covered i.kind q.listed (branch_cost i q)
 
-    covered-beaten : is-covered ≡ true → Beaten i q
-    covered-beaten h = covered-cost (i .kind) (q .listed) (branch-cost i q) (covered-true (i .kind) (q .listed) (branch-cost i q) h)
+    covered_beaten : is_covered ≡ true → Beaten i q
+    covered_beaten h = covered-cost i.kind q.listed (branch_cost i q) (covered_true i.kind q.listed (branch_cost i q) h)
 
-    uncovered-unbeaten : is-covered ≡ false → Beaten i q → ⊥
-    uncovered-unbeaten h (c, at, le) =
-        let above : C → Type 0 = λ c. i .kind .at-most c (branch-cost i q) ≡ false in
-        both-ways _ (all-has above _ c (all-map above (λ l. l .cost) (q .listed) (covered-false (i .kind) (q .listed) (branch-cost i q) h)) at) le
+    uncovered_unbeaten : is_covered ≡ false → Beaten i q → ⊥
+    uncovered_unbeaten h (c, at, le) =
+        let above : C → Type 0 = λ c. i.kind.at_most c (branch_cost i q) ≡ false in
+        both_ways _ (all-has above _ c (All-map above (λ l. l.cost) q.listed (covered_false i.kind q.listed (branch_cost i q) h)) at) le
 
-    beaten-covered : Beaten i q → is-covered ≡ true
-    beaten-covered h = elim (cases-bool is-covered) [ inl e ↦ e | inr e ↦ absurd (uncovered-unbeaten e h) ]
+    beaten_covered : Beaten i q → is_covered ≡ true
+    beaten_covered h = elim (cases_Bool is_covered) [ inl e ↦ e | inr e ↦ absurd (uncovered_unbeaten e h) ]
 
-    unbeaten-uncovered : (Beaten i q → ⊥) → is-covered ≡ false
-    unbeaten-uncovered h = elim (cases-bool is-covered) [ inl e ↦ absurd (h (covered-beaten e)) | inr e ↦ e ]
+    unbeaten_uncovered : (Beaten i q → ⊥) → is_covered ≡ false
+    unbeaten_uncovered h = elim (cases_Bool is_covered) [ inl e ↦ absurd (h (covered_beaten e)) | inr e ↦ e ]
 
     -- at a branch
-    list-or-branch-rule : (Beaten i q → ⊥) → (o : Option Conflict) → first-conflict (q .walks) 0 (i .horizon) ≡ o → AtBranch i room q (list-or-branch i room q (branch-cost i q) o)
-    list-or-branch-rule new none e =
-        cond-both (ltb (length (staying i q)) (room .list)) _ _ (AtBranch i room q)
-        (λ h. lists new (is-none (q .walks) (i .horizon) e) (ltb-true _ _ h))
-        (λ h. no-list-row new (is-none (q .walks) (i .horizon) e) (ltb-false _ _ h))
-    list-or-branch-rule new (some x) e =
-        cond-both (ltb (length (q .trail)) (room .trail)) _ _ (AtBranch i room q)
-        (λ h. branches x new (is-first (q .walks) (i .horizon) x e) (ltb-true _ _ h))
-        (λ h. no-trail-row x new (is-first (q .walks) (i .horizon) x e) (ltb-false _ _ h))
+    list_or_branch_rule : (Beaten i q → ⊥) → (o : Option Conflict) → first_conflict q.walks 0 i.horizon ≡ o → AtBranch i room q (list_or_branch i room q (branch_cost i q) o)
+    list_or_branch_rule new none e =
+        cond_both (ltb (length (staying i q)) room.list) _ _ (AtBranch i room q)
+        (λ h. lists new (is_none q.walks i.horizon e) (ltb-true _ _ h))
+        (λ h. no_list_row new (is_none q.walks i.horizon e) (ltb-false _ _ h))
+    list_or_branch_rule new (some x) e =
+        cond_both (ltb (length q.trail) room.trail) _ _ (AtBranch i room q)
+        (λ h. branches x new (is_first q.walks i.horizon x e) (ltb-true _ _ h))
+        (λ h. no_trail_row x new (is_first q.walks i.horizon x e) (ltb-false _ _ h))
 
-    examine-rule : AtBranch i room q (examine i room q)
-    examine-rule =
-        cond-both is-covered _ _ (AtBranch i room q) (λ h. drops (covered-beaten h))
-        (λ h. list-or-branch-rule (uncovered-unbeaten h) (first-conflict (q .walks) 0 (i .horizon)) refl)
+    examine_rule : AtBranch i room q (examine i room q)
+    examine_rule =
+        cond_both is_covered _ _ (AtBranch i room q) (λ h. drops (covered_beaten h))
+        (λ h. list_or_branch_rule (uncovered_unbeaten h) (first_conflict q.walks 0 i.horizon) refl)
 
-    goes-to : (Beaten i q → ⊥) → (o : Option Conflict) → first-conflict (q .walks) 0 (i .horizon) ≡ o → examine i room q ≡ list-or-branch i room q (branch-cost i q) o
-    goes-to new o e = cond-false is-covered _ _ (unbeaten-uncovered new) ∙ ap (list-or-branch i room q (branch-cost i q)) e
+    goes_to : (Beaten i q → ⊥) → (o : Option Conflict) → first_conflict q.walks 0 i.horizon ≡ o → examine i room q ≡ list_or_branch i room q (branch_cost i q) o
+    goes_to new o e = cond-false is_covered _ _ (unbeaten_uncovered new) ∙ ap (list_or_branch i room q (branch_cost i q)) e
 
-    rule-examine : (t : Turned C) → AtBranch i room q t → examine i room q ≡ t
-    rule-examine t (drops h) = cond-true is-covered _ _ (beaten-covered h)
-    rule-examine t (lists new free fits) = goes-to new none (first-conflict-right .absent (q .walks) (i .horizon) .1 free) ∙ cond-true _ _ _ (lt-ltb _ _ fits)
-    rule-examine t (no-list-row new free full) = goes-to new none (first-conflict-right .absent (q .walks) (i .horizon) .1 free) ∙ cond-false _ _ _ (le-ltb _ _ full)
-    rule-examine t (branches x new first fits) = goes-to new (some x) (first-conflict-right .found (q .walks) (i .horizon) x .1 first) ∙ cond-true _ _ _ (lt-ltb _ _ fits)
-    rule-examine t (no-trail-row x new first full) = goes-to new (some x) (first-conflict-right .found (q .walks) (i .horizon) x .1 first) ∙ cond-false _ _ _ (le-ltb _ _ full)
+    rule_examine : (t : Turned C) → AtBranch i room q t → examine i room q ≡ t
+    rule_examine t (drops h) = cond-true is_covered _ _ (beaten_covered h)
+    rule_examine t (lists new free fits) = goes_to new none ((first_conflict_right.absent q.walks i.horizon).1 free) ∙ cond-true _ _ _ (lt-ltb _ _ fits)
+    rule_examine t (no_list_row new free full) = goes_to new none ((first_conflict_right.absent q.walks i.horizon).1 free) ∙ cond-false _ _ _ (le-ltb _ _ full)
+    rule_examine t (branches x new first fits) = goes_to new (some x) ((first_conflict_right.found q.walks i.horizon x).1 first) ∙ cond-true _ _ _ (lt-ltb _ _ fits)
+    rule_examine t (no_trail_row x new first full) = goes_to new (some x) ((first_conflict_right.found q.walks i.horizon x).1 first) ∙ cond-false _ _ _ (le-ltb _ _ full)
 
     -- at a branching
     module _ (b : Branching) (below : List Branching) where
       abbrev now : List (Label C)
-      now = offers i (its-cart b) (map standing (b ∷ below))
+      now = offers i (its_cart b) (map standing (b ∷ below))
 
       abbrev before : List (Label C)
-      before = offers i (its-cart b) (map standing below)
+      before = offers i (its_cart b) (map standing below)
 
-      abbrev fits-now : Bool
-      fits-now = leb (label-count i (its-cart b) (map standing (b ∷ below))) (room .labels)
+      abbrev fits_now : Bool
+      fits_now = leb (label_count i (its_cart b) (map standing (b ∷ below))) room.labels
 
-      abbrev fits-before : Bool
-      fits-before = leb (label-count i (its-cart b) (map standing below)) (room .labels)
+      abbrev fits_before : Bool
+      fits_before = leb (label_count i (its_cart b) (map standing below)) room.labels
 
       -- the carts' numbers with the former one put back
       abbrev numbers : List ℕ
-      numbers = set (q .numbers) (its-cart b) (b .former)
+      numbers = set q.numbers (its_cart b) b.former
 
-      put-back-rule : NoneNext i room b below → Fits i room (its-cart b) (map standing below) → (o : Option (Label C)) → getElem? before (b .former) ≡ o →
-          AtBranching i room q b below (put-back q b below o)
-      put-back-rule none-next fits none e = no-former none-next fits (at-past before (b .former) e)
-      put-back-rule none-next fits (some o) e =
-          cond-both (b .turned) below (to-second b numbers ∷ below) (λ trail. AtBranching i room q b below (went 0 (with-offer q seeking trail (its-cart b) (b .former) o)))
-          (ends o none-next (fits, e))
-          (turns-over o none-next (fits, e))
+      put_back_rule : NoneNext i room b below → Fits i room (its_cart b) (map standing below) → (o : Option (Label C)) → get_elem? before b.former ≡ o →
+          AtBranching i room q b below (put_back q b below o)
+      put_back_rule none_next fits none e = no_former none_next fits (at_past before b.former e)
+      put_back_rule none_next fits (some o) e =
+          cond_both b.turned below (to_second b numbers ∷ below) (λ trail. AtBranching i room q b below (went 0 (with_offer q seeking trail (its_cart b) b.former o)))
+          (ends o none_next (fits, e))
+          (turns_over o none_next (fits, e))
 
-      take-next-rule : Fits i room (its-cart b) (map standing (b ∷ below)) → (o : Option (Label C)) → getElem? now (next-number b) ≡ o →
-          AtBranching i room q b below (take-next i room q b below o)
-      take-next-rule fits none e =
-          let none-next : NoneNext i room b below = (fits, at-past now (next-number b) e) in
-          cond-both fits-before _ _ (AtBranching i room q b below)
-          (λ h. put-back-rule none-next (leb-true _ _ h) (getElem? before (b .former)) refl)
-          (λ h. many-labels-below none-next (leb-false _ _ h))
-      take-next-rule fits (some o) e = takes o fits e
+      take_next_rule : Fits i room (its_cart b) (map standing (b ∷ below)) → (o : Option (Label C)) → get_elem? now (next_number b) ≡ o →
+          AtBranching i room q b below (take_next i room q b below o)
+      take_next_rule fits none e =
+          let none_next : NoneNext i room b below = (fits, at_past now (next_number b) e) in
+          cond_both fits_before _ _ (AtBranching i room q b below)
+          (λ h. put_back_rule none_next (leb-true _ _ h) (get_elem? before b.former) refl)
+          (λ h. many_labels_below none_next (leb-false _ _ h))
+      take_next_rule fits (some o) e = takes o fits e
 
-      seek-offer-rule : AtBranching i room q b below (seek-offer i room q b below)
-      seek-offer-rule =
-          cond-both fits-now _ _ (AtBranching i room q b below)
-          (λ h. take-next-rule (leb-true _ _ h) (getElem? now (next-number b)) refl)
-          (λ h. many-labels (leb-false _ _ h))
+      seek_offer_rule : AtBranching i room q b below (seek_offer i room q b below)
+      seek_offer_rule =
+          cond_both fits_now _ _ (AtBranching i room q b below)
+          (λ h. take_next_rule (leb-true _ _ h) (get_elem? now (next_number b)) refl)
+          (λ h. many_labels (leb-false _ _ h))
 
-      gives-up : NoneNext i room b below → seek-offer i room q b below ≡ cond fits-before (put-back q b below (getElem? before (b .former))) (stopped labels-exceeded)
-      gives-up h =
-          cond-true fits-now _ _ (le-leb _ _ (h .0))
-          ∙ ap (take-next i room q b below) (past-none now (next-number b) (h .1) (getElem? now (next-number b)) refl)
+      gives_up : NoneNext i room b below → seek_offer i room q b below ≡ cond fits_before (put_back q b below (get_elem? before b.former)) (stopped labels_exceeded)
+      gives_up h =
+          cond-true fits_now _ _ (le-leb _ _ h.0)
+          ∙ ap (take_next i room q b below) (past_none now (next_number b) h.1 (get_elem? now (next_number b)) refl)
 
-      puts-back : (o : Label C) → NoneNext i room b below → Former i room b below o →
-          seek-offer i room q b below ≡ went 0 (with-offer q seeking (turned-over b numbers below) (its-cart b) (b .former) o)
-      puts-back o h f = gives-up h ∙ cond-true fits-before _ _ (le-leb _ _ (f .0)) ∙ ap (put-back q b below) (f .1)
+      puts_back : (o : Label C) → NoneNext i room b below → Former i room b below o →
+          seek_offer i room q b below ≡ went 0 (with_offer q seeking (turned_over b numbers below) (its_cart b) b.former o)
+      puts_back o h f = gives_up h ∙ cond-true fits_before _ _ (le-leb _ _ f.0) ∙ ap (put_back q b below) f.1
 
-      rule-seek-offer : (t : Turned C) → AtBranching i room q b below t → seek-offer i room q b below ≡ t
-      rule-seek-offer t (many-labels h) = cond-false fits-now _ _ (lt-leb _ _ h)
-      rule-seek-offer t (takes o fits e) = cond-true fits-now _ _ (le-leb _ _ fits) ∙ ap (take-next i room q b below) e
-      rule-seek-offer t (many-labels-below h exceeds) = gives-up h ∙ cond-false fits-before _ _ (lt-leb _ _ exceeds)
-      rule-seek-offer t (no-former h fits past) =
-          gives-up h ∙ cond-true fits-before _ _ (le-leb _ _ fits) ∙ ap (put-back q b below) (past-none before (b .former) past (getElem? before (b .former)) refl)
-      rule-seek-offer t (turns-over o h f first) = puts-back o h f ∙ ap (λ trail. went 0 (with-offer q seeking trail (its-cart b) (b .former) o)) (cond-false (b .turned) _ _ first)
-      rule-seek-offer t (ends o h f second) = puts-back o h f ∙ ap (λ trail. went 0 (with-offer q seeking trail (its-cart b) (b .former) o)) (cond-true (b .turned) _ _ second)
+      rule_seek_offer : (t : Turned C) → AtBranching i room q b below t → seek_offer i room q b below ≡ t
+      rule_seek_offer t (many_labels h) = cond-false fits_now _ _ (lt-leb _ _ h)
+      rule_seek_offer t (takes o fits e) = cond-true fits_now _ _ (le-leb _ _ fits) ∙ ap (take_next i room q b below) e
+      rule_seek_offer t (many_labels_below h exceeds) = gives_up h ∙ cond-false fits_before _ _ (lt-leb _ _ exceeds)
+      rule_seek_offer t (no_former h fits past) =
+          gives_up h ∙ cond-true fits_before _ _ (le-leb _ _ fits) ∙ ap (put_back q b below) (past_none before b.former past (get_elem? before b.former) refl)
+      rule_seek_offer t (turns_over o h f first) = puts_back o h f ∙ ap (λ trail. went 0 (with_offer q seeking trail (its_cart b) b.former o)) (cond-false b.turned _ _ first)
+      rule_seek_offer t (ends o h f second) = puts_back o h f ∙ ap (λ trail. went 0 (with_offer q seeking trail (its_cart b) b.former o)) (cond-true b.turned _ _ second)
 
     -- at the roots
-    module _ (bare : q .trail ≡ []) where
-      abbrev all-fits : Bool
-      all-fits = all-fit i room (counting 0 (cart-count i))
+    module _ (bare : q.trail ≡ []) where
+      abbrev all_fits : Bool
+      all_fits = all_fit i room (range_with_len 0 (cart_count i))
 
-      seek-root-rule : AtRoots i room q (seek-root i room q)
-      seek-root-rule =
-          cond-both all-fits _ _ (AtRoots i room q)
-          (λ h. moves-on _ (λ c known. few h c known) (next-root-is i q bare))
-          (λ h. let x = not-all-fit i room 0 (cart-count i) h in many-labels-free (x .0) (omega (arith, x .2)) (x .3))
+      seek_root_rule : AtRoots i room q (seek_root i room q)
+      seek_root_rule =
+          cond_both all_fits _ _ (AtRoots i room q)
+          (λ h. moves_on _ (λ c known. few h c known) (next_root_is i q bare))
+          (λ h. let x = not_all_fit i room 0 (cart_count i) h in many_labels_free x.0 (omega (arith, x.2)) x.3)
         where
-          few : all-fits ≡ true → (c : ℕ) → c < cart-count i → Fits i room c []
-          few h c known = elim (cases-lt (room .labels) (label-count i c [])) [ inl more ↦ absurd (all-fit-few i room 0 (cart-count i) h (c, omega arith, omega arith, more)) | inr fits ↦ fits ]
+          few : all_fits ≡ true → (c : ℕ) → c < cart_count i → Fits i room c []
+          few h c known = elim (cases_lt room.labels (label_count i c [])) [ inl more ↦ absurd (all_fit-few i room 0 (cart_count i) h (c, omega arith, omega arith, more)) | inr fits ↦ fits ]
 
-      rule-seek-root : (t : Turned C) → AtRoots i room q t → seek-root i room q ≡ t
-      rule-seek-root t (many-labels-free c known exceeds) =
-          elim (cases-bool all-fits) [ inl h ↦ absurd (all-fit-few i room 0 (cart-count i) h (c, omega arith, omega arith, exceeds)) | inr h ↦ cond-false all-fits _ _ h ]
-      rule-seek-root t (moves-on r fits next) =
-          elim (cases-bool all-fits) [
-            | inl h ↦ cond-true all-fits _ _ h ∙ ap (went 0) (one-next-root i (next-root-is i q bare) next)
-            | inr h ↦ let x = not-all-fit i room 0 (cart-count i) h in absurd (omega (arith, x .3, fits (x .0) (omega (arith, x .2))))
+      rule_seek_root : (t : Turned C) → AtRoots i room q t → seek_root i room q ≡ t
+      rule_seek_root t (many_labels_free c known exceeds) =
+          elim (cases_Bool all_fits) [ inl h ↦ absurd (all_fit-few i room 0 (cart_count i) h (c, omega arith, omega arith, exceeds)) | inr h ↦ cond-false all_fits _ _ h ]
+      rule_seek_root t (moves_on r fits next) =
+          elim (cases_Bool all_fits) [
+            | inl h ↦ cond-true all_fits _ _ h ∙ ap (went 0) (one_next_root i (next_root_is i q bare) next)
+            | inr h ↦ let x = not_all_fit i room 0 (cart_count i) h in absurd (omega (arith, x.3, fits x.0 (omega (arith, x.2))))
           ]
 
-    seek-rule : q .phase ≡ seeking → (trail : List Branching) → q .trail ≡ trail → Rule i room q (seek i room q trail)
-    seek-rule e [] bare = at-the-roots e bare (seek-root-rule bare)
-    seek-rule e (b ∷ below) top = at-a-branching b below e top (seek-offer-rule b below)
+    seek_rule : q.phase ≡ seeking → (trail : List Branching) → q.trail ≡ trail → Rule i room q (seek i room q trail)
+    seek_rule e [] bare = at_the_roots e bare (seek_root_rule bare)
+    seek_rule e (b ∷ below) top = at_a_branching b below e top (seek_offer_rule b below)
 
-    turn-rule : (p : Phase) → q .phase ≡ p → Rule i room q (turn-in i room p q)
-    turn-rule at-branch e = at-a-branch e examine-rule
-    turn-rule seeking e = seek-rule e (q .trail) refl
-    turn-rule done e = at-the-end e refl
+    turn_rule : (p : Phase) → q.phase ≡ p → Rule i room q (turn_in i room p q)
+    turn_rule at_branch e = at_a_branch e examine_rule
+    turn_rule seeking e = seek_rule e q.trail refl
+    turn_rule done e = at_the_end e refl
 
-    in-phase : (p : Phase) → q .phase ≡ p → turn i room q ≡ turn-in i room p q
-    in-phase p e = ap (λ x. turn-in i room x q) e
+    in_phase : (p : Phase) → q.phase ≡ p → turn i room q ≡ turn_in i room p q
+    in_phase p e = ap (λ x. turn_in i room x q) e
 
-    rule-turn : (t : Turned C) → Rule i room q t → turn i room q ≡ t
-    rule-turn t (at-a-branch e h) = in-phase at-branch e ∙ rule-examine t h
-    rule-turn t (at-a-branching b below e top h) = in-phase seeking e ∙ ap (seek i room q) top ∙ rule-seek-offer b below t h
-    rule-turn t (at-the-roots e bare h) = in-phase seeking e ∙ ap (seek i room q) bare ∙ rule-seek-root bare t h
-    rule-turn t (at-the-end e h) = in-phase done e ∙ sym h
+    rule_turn : (t : Turned C) → Rule i room q t → turn i room q ≡ t
+    rule_turn t (at_a_branch e h) = in_phase at_branch e ∙ rule_examine t h
+    rule_turn t (at_a_branching b below e top h) = in_phase seeking e ∙ ap (seek i room q) top ∙ rule_seek_offer b below t h
+    rule_turn t (at_the_roots e bare h) = in_phase seeking e ∙ ap (seek i room q) bare ∙ rule_seek_root bare t h
+    rule_turn t (at_the_end e h) = in_phase done e ∙ sym h
 
-pub turns-right : {C : Type 0} → TurnsRight C
-turns-right i room q t = (λ e. subst (Rule i room q) e (turn-rule i room q (q .phase) refl), rule-turn i room q t)
+pub turns_right : {C : Type 0} → TurnsRight C
+turns_right i room q t = (λ e. subst (Rule i room q) e (turn_rule i room q q.phase refl), rule_turn i room q t)

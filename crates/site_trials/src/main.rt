@@ -1,16 +1,17 @@
+#![tactic(auto)]
+
 // Tries sites, good and malformed: standard input has one after another, each below a line that begins with `-` and names it. Prints each
 // name, and below it what is printed for the site.
+ghost use Rattle.std.specs.Prelude.{◌≤◌, length};
+
 use digits::split_once;
 use offer_pages::offer_page;
 use std::io;
-use std::io::Read;
-use std::io::Write;
-ghost use Prim.Native.Nat.{_≤_};
-ghost use lib.ListN.{length};
+use std::io::{Read, Write};
 
 // How many bytes stand before the first line that begins with `-`.
 fn site_length(bytes: &[u8]) -> usize
-    ensures { λ r. ⌜ r ≤ length (now (bytes .entry)) ⌝ }
+    ensures { result ≤ length bytes.now }
 {
     for n in 0..bytes.len() {
         if bytes[n] == b'-' && (n == 0 || bytes[n - 1] == b'\n') {
@@ -20,7 +21,7 @@ fn site_length(bytes: &[u8]) -> usize
     bytes.len()
 }
 
-fn run(rt: &LibcRuntime) -> io::Result<()> {
+fn run(rt: &HostRuntime) -> io::Result<()> {
     let mut input = Vec::new(rt.alloc());
     rt.stdin().read_to_end(&mut input)?;
     let mut rest = input.as_slice();
@@ -35,6 +36,6 @@ fn run(rt: &LibcRuntime) -> io::Result<()> {
     Ok(())
 }
 
-fn main(rt: LibcRuntime) -> io::Result<()> {
-    rt.report(run(&rt))
+fn main(rt: HostRuntime) -> io::Result<()> {
+    run(&rt)
 }

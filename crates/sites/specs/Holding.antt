@@ -1,67 +1,60 @@
 -- What the reader keeps while it reads, and what one record more does to it. Assumes nothing.
-use mathlib.Core.Path.{_≡_}
-use mathlib.Core.List.{List, [], _∷_, _++_}
-use mathlib.Core.Logic.{_⊎_}
-use Prim.Native.Nat.{ℕ, _≤_}
-use lib.ListN.{length, take}
-use Rattle·std.specs.declared.option.Option.the-variants.{Some, None}
-use Rattle·std.specs.declared.result.Result.{Result}
-use Rattle·std.specs.declared.result.Result.the-variants.{Ok, Err}
-use Rattle·costs.specs.declared.pair.Pair.{Pair}
-use Rattle·costs.specs.declared.total.Total.{Total}
-use Rattle·costs.specs.declared.worst.Worst.{Worst}
-use Rattle·carts.specs.declared.cart.Cart.{Cart as CartRow}
-use Rattle·carts.specs.Drafts.{cart-refusal}
-use Rattle·floors.specs.declared.lane_row.LaneRow.{LaneRow}
-use Rattle·floors.specs.Lanes.{lane-count, lane-moves}
-use Rattle·floors.specs.MoveTables.{table-moves}
-use Rattle·sites·specs.declared.reading.Reading.{Reading}
-use Rattle·sites·specs.declared.records.Record.{Record}
-use Rattle·sites·specs.declared.refusal.SiteFault.{SiteFault}
-use Rattle·sites·specs.declared.refusal.SiteFault.the-variants.{Misread}
-use Rattle·sites·specs.declared.rooms.Rooms.{Rooms}
-use Rattle·sites·specs.Sites.{SiteData, said, last-rank, MayFollow, lane-fault, draft-fault, fault-of}
+use Rattle.std.specs.Prelude.{◌≡◌, ℕ, ◌≤◌, ◌⊎◌, List, [], ◌∷◌, ◌++◌, length, take, Some, None, Ok, Err, Result}
+use Rattle.costs.specs.declared.pair.Pair.{Pair}
+use Rattle.costs.specs.declared.total.Total.{Total}
+use Rattle.costs.specs.declared.worst.Worst.{Worst}
+use Rattle.carts.specs.declared.cart.Cart.{Cart as CartRow}
+use Rattle.carts.specs.Drafts.{cart_refusal}
+use Rattle.floors.specs.declared.lane_row.LaneRow.{LaneRow}
+use Rattle.floors.specs.Lanes.{lane_count, lane_moves}
+use Rattle.floors.specs.MoveTables.{table_moves}
+use Rattle.sites.specs.declared.reading.Reading.{Reading}
+use Rattle.sites.specs.declared.records.Record.{Record}
+use Rattle.sites.specs.declared.refusal.SiteFault.{SiteFault}
+use Rattle.sites.specs.declared.refusal.SiteFault.TheVariants.{Misread}
+use Rattle.sites.specs.declared.rooms.Rooms.{Rooms}
+use Rattle.sites.specs.Sites.{SiteData, said, last_rank, MayFollow, lane_fault, draft_fault, fault_of}
 
 -- what the reader keeps says this of a site
 pub record Holds (s : SiteData) (r : Reading) : Type 0 where
-  pub horizon : r .draft .horizon ≡ s .horizon
-  pub entered : r .draft .carts ≡ length (s .carts)
-  pub carts : take (length (s .carts)) (r .carts) ≡ s .carts
-  pub rows : length (r .carts) ≡ 6
-  pub floor : table-moves (r .floor .table) ≡ lane-moves (s .places) (s .lanes)
-  pub counted : lane-count (table-moves (r .floor .table)) ≡ length (s .lanes)
-  pub lanes : r .lanes ≡ length (s .lanes)
-  pub tariff : r .tariff ≡ length (s .tariff)
+  pub horizon : r.draft.horizon ≡ s.horizon
+  pub entered : r.draft.carts ≡ length s.carts
+  pub carts : take (length s.carts) r.carts ≡ s.carts
+  pub rows : length r.carts ≡ 6
+  pub floor : table_moves r.floor.table ≡ lane_moves s.places s.lanes
+  pub counted : lane_count (table_moves r.floor.table) ≡ length s.lanes
+  pub lanes : r.lanes ≡ length s.lanes
+  pub tariff : r.tariff ≡ length s.tariff
 
 -- a site with one lane, tariff line or cart more
-abbrev pub with-lane : SiteData → LaneRow → SiteData
-with-lane s l = record { horizon = s .horizon; places = s .places; lanes = s .lanes ++ l ∷ []; tariff = s .tariff; carts = s .carts }
+abbrev pub with_lane : SiteData → LaneRow → SiteData
+with_lane s l = record { horizon = s.horizon; places = s.places; lanes = s.lanes ++ l ∷ []; tariff = s.tariff; carts = s.carts }
 
-abbrev pub with-cost : SiteData → Pair Total Worst → SiteData
-with-cost s c = record { horizon = s .horizon; places = s .places; lanes = s .lanes; tariff = s .tariff ++ c ∷ []; carts = s .carts }
+abbrev pub with_cost : SiteData → Pair Total Worst → SiteData
+with_cost s c = record { horizon = s.horizon; places = s.places; lanes = s.lanes; tariff = s.tariff ++ c ∷ []; carts = s.carts }
 
-abbrev pub with-cart : SiteData → CartRow → SiteData
-with-cart s c = record { horizon = s .horizon; places = s .places; lanes = s .lanes; tariff = s .tariff; carts = s .carts ++ c ∷ [] }
+abbrev pub with_cart : SiteData → CartRow → SiteData
+with_cart s c = record { horizon = s.horizon; places = s.places; lanes = s.lanes; tariff = s.tariff; carts = s.carts ++ c ∷ [] }
 
 abbrev pub LaneTaken : SiteData → LaneRow → Result Reading SiteFault → Type 0
-LaneTaken s l (Ok r) = (lane-fault (s .places) (s .lanes) l ≡ None) × Holds (with-lane s l) r
-LaneTaken s l (Err f) = lane-fault (s .places) (s .lanes) l ≡ Some f
+LaneTaken s l (Ok r) = (lane_fault s.places s.lanes l ≡ None) × Holds (with_lane s l) r
+LaneTaken s l (Err f) = lane_fault s.places s.lanes l ≡ Some f
 
 abbrev pub CartTaken : ℕ → SiteData → ℕ → ℕ → Result Reading SiteFault → Type 0
-CartTaken rows s start goal (Ok r) = (cart-refusal (s .carts) rows start goal ≡ None) × Holds (with-cart s (record { start = start; goal = goal })) r
-CartTaken rows s start goal (Err f) = draft-fault (cart-refusal (s .carts) rows start goal) ≡ Some f
+CartTaken rows s start goal (Ok r) = (cart_refusal s.carts rows start goal ≡ None) × Holds (with_cart s (record { start = start; goal = goal })) r
+CartTaken rows s start goal (Err f) = draft_fault (cart_refusal s.carts rows start goal) ≡ Some f
 
 -- what the reader keeps after some records, HZ and PL among them
 pub record Keeps (before : List Record) (r : Reading) : Type 0 where
   pub holds : Holds (said before) r
-  pub ranked : r .rank ≡ last-rank before
-  pub begun : 2 ≤ last-rank before
+  pub ranked : r.rank ≡ last_rank before
+  pub begun : 2 ≤ last_rank before
 
 -- a record is taken after others, or is misread there, or has a fault
 abbrev pub Took : Rooms → List Record → Record → Result Reading SiteFault → Type 0
-Took rooms before next (Ok r) = MayFollow (last-rank before) next × (fault-of rooms before next ≡ None) × Keeps (before ++ next ∷ []) r
+Took rooms before next (Ok r) = MayFollow (last_rank before) next × (fault_of rooms before next ≡ None) × Keeps (before ++ next ∷ []) r
 Took rooms before next (Err f) =
-    ((f ≡ Misread) × (MayFollow (last-rank before) next → ⊥)) ⊎ (MayFollow (last-rank before) next × (fault-of rooms before next ≡ Some f))
+    ((f ≡ Misread) × (MayFollow (last_rank before) next → ⊥)) ⊎ (MayFollow (last_rank before) next × (fault_of rooms before next ≡ Some f))
 
 -- whatever records came before
 abbrev pub TookNext : Reading → Rooms → Record → Result Reading SiteFault → Type 0

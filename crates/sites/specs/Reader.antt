@@ -1,25 +1,19 @@
 -- What the site reader answers, and what it leaves in the tables. Assumes nothing.
-use mathlib.Core.Path.{_≡_}
-use mathlib.Core.List.{List}
-use mathlib.Core.Logic.{_⊎_}
-use Prim.Native.Nat.{ℕ, _<_, _≤_}
-use lib.ListN.{length}
-use Rattle·std.specs.declared.result.Result.{Result}
-use Rattle·std.specs.declared.result.Result.the-variants.{Ok, Err}
-use Rattle·costs.specs.declared.pair.Pair.{Pair}
-use Rattle·costs.specs.declared.total.Total.{Total}
-use Rattle·costs.specs.declared.worst.Worst.{Worst}
-use Rattle·carts.specs.declared.cart.Cart.{Cart as CartRow}
-use Rattle·floors.specs.declared.lane_row.LaneRow.{LaneRow}
-use Rattle·floors.specs.Lanes.{lane-moves}
-use Rattle·floors.specs.MoveTables.{table-moves}
-use Rattle·sites·specs.declared.records.Record.{Record}
-use Rattle·sites·specs.declared.refusal.SiteFault.the-variants.{TooLong}
-use Rattle·sites·specs.declared.refusal.SiteRefusal.{SiteRefusal}
-use Rattle·sites·specs.declared.rooms.Rooms.{Rooms}
-use Rattle·sites·specs.declared.site.Site.{Site}
-use Rattle·sites·specs.Sites.{SiteData, said, Accepted, Refused}
-use Rattle·sites·specs.Writing.{filled}
+use Rattle.std.specs.Prelude.{◌≡◌, ℕ, ◌<◌, ◌≤◌, ◌⊎◌, List, length, Ok, Err, Result}
+use Rattle.costs.specs.declared.pair.Pair.{Pair}
+use Rattle.costs.specs.declared.total.Total.{Total}
+use Rattle.costs.specs.declared.worst.Worst.{Worst}
+use Rattle.carts.specs.declared.cart.Cart.{Cart as CartRow}
+use Rattle.floors.specs.declared.lane_row.LaneRow.{LaneRow}
+use Rattle.floors.specs.Lanes.{lane_moves}
+use Rattle.floors.specs.MoveTables.{table_moves}
+use Rattle.sites.specs.declared.records.Record.{Record}
+use Rattle.sites.specs.declared.refusal.SiteFault.TheVariants.{TooLong}
+use Rattle.sites.specs.declared.refusal.SiteRefusal.{SiteRefusal}
+use Rattle.sites.specs.declared.rooms.Rooms.{Rooms}
+use Rattle.sites.specs.declared.site.Site.{Site}
+use Rattle.sites.specs.Sites.{SiteData, said, Accepted, Refused}
+use Rattle.sites.specs.Writing.{filled}
 
 -- the lent tables
 pub record Tables : Type 0 where
@@ -30,31 +24,31 @@ pub record Tables : Type 0 where
 abbrev pub tables : List LaneRow → List (Pair Total Worst) → List CartRow → Tables
 tables lanes tariff carts = record { lanes = lanes; tariff = tariff; carts = carts }
 
-abbrev pub rooms-of : Tables → Rooms
-rooms-of t = record { lanes = length (t .lanes); tariff = length (t .tariff); carts = length (t .carts) }
+abbrev pub rooms_of : Tables → Rooms
+rooms_of t = record { lanes = length t.lanes; tariff = length t.tariff; carts = length t.carts }
 
 -- the tables with a site in their first rows, and the other rows as they were
-abbrev pub filled-with : SiteData → Tables → Tables
-filled-with s t = record { lanes = filled (s .lanes) (t .lanes); tariff = filled (s .tariff) (t .tariff); carts = filled (s .carts) (t .carts) }
+abbrev pub filled_with : SiteData → Tables → Tables
+filled_with s t = record { lanes = filled s.lanes t.lanes; tariff = filled s.tariff t.tariff; carts = filled s.carts t.carts }
 
 -- the answer holds what the records say
 pub record SiteHolds (s : SiteData) (site : Site) : Type 0 where
-  pub horizon : site .draft .horizon ≡ s .horizon
-  pub carts : site .draft .carts ≡ length (s .carts)
-  pub floor : table-moves (site .floor .table) ≡ lane-moves (s .places) (s .lanes)
-  pub lanes : site .lanes ≡ length (s .lanes)
-  pub tariff : site .tariff ≡ length (s .tariff)
+  pub horizon : site.draft.horizon ≡ s.horizon
+  pub carts : site.draft.carts ≡ length s.carts
+  pub floor : table_moves site.floor.table ≡ lane_moves s.places s.lanes
+  pub lanes : site.lanes ≡ length s.lanes
+  pub tariff : site.tariff ≡ length s.tariff
 
 pub record Opened (bytes : List ℕ) (was after : Tables) (site : Site) : Type 0 where
   pub short : length bytes ≤ 16384
   pub records : List Record
-  pub accepted : Accepted (rooms-of was) bytes records
-  pub written : after ≡ filled-with (said records) was
+  pub accepted : Accepted (rooms_of was) bytes records
+  pub written : after ≡ filled_with (said records) was
   pub holds : SiteHolds (said records) site
 
 pub record TurnedDown (bytes : List ℕ) (was after : Tables) (e : SiteRefusal) : Type 0 where
   pub same : after ≡ was
-  pub why : ((16384 < length bytes) × (e ≡ record { line = 0; fault = TooLong })) ⊎ ((length bytes ≤ 16384) × Refused (rooms-of was) bytes (e .line) (e .fault))
+  pub why : ((16384 < length bytes) × (e ≡ record { line = 0; fault = TooLong })) ⊎ ((length bytes ≤ 16384) × Refused (rooms_of was) bytes e.line e.fault)
 
 -- a whole site is read into the tables; or a line is refused, and the tables are as they were
 abbrev pub SiteRead : List ℕ → Tables → Tables → Result Site SiteRefusal → Type 0

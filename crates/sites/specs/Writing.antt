@@ -1,13 +1,9 @@
 -- The rows of tables that a site's records fill. Assumes nothing.
-use mathlib.Core.Path.{_≡_}
-use mathlib.Core.List.{List, _++_}
-use Prim.Native.Nat.{ℕ, _+_, _≤_}
-use lib.ListN.{length, take, drop}
-use Rattle·std.specs.Joined.{joined}
-use Rattle·std.specs.shelf.Lists.{All}
-use Rattle·sites·specs.declared.records.Record.{Record}
-use Rattle·sites·specs.Records.{Fitting, records-text}
-use Rattle·sites·specs.Sites.{lanes-in, tariff-in}
+use Rattle.std.specs.Prelude.{◌≡◌, ℕ, ◌+◌, ◌≤◌, List, ◌++◌, length, take, drop}
+use Rattle.std.specs.List.{flat_map, AllByRecursion}
+use Rattle.sites.specs.declared.records.Record.{Record}
+use Rattle.sites.specs.Records.{Fitting, records_text}
+use Rattle.sites.specs.Sites.{lanes_in, tariff_in}
 
 -- a table with some rows written from row n on
 abbrev pub put : {X : Type 0} → List X → ℕ → List X → List X
@@ -20,11 +16,11 @@ filled rows table = rows ++ drop (length rows) table
 -- the bytes are the text of records that have their rows
 pub record Writable (bytes : List ℕ) (lanes tariff : ℕ) : Type 0 where
   pub records : List Record
-  pub fitting : All Fitting records
-  pub text : bytes ≡ records-text records
-  pub lanes-room : length (joined lanes-in records) ≤ lanes
-  pub tariff-room : length (joined tariff-in records) ≤ tariff
+  pub fitting : AllByRecursion Fitting records
+  pub text : bytes ≡ records_text records
+  pub lanes_room : length (flat_map lanes_in records) ≤ lanes
+  pub tariff_room : length (flat_map tariff_in records) ≤ tariff
 
 -- where the bytes are the text of these records, their rows of one table are written and no other
 abbrev pub RowsWritten : {X : Type 0} → (Record → List X) → List Record → List ℕ → List X → List X → Type 0
-RowsWritten part rs bytes was after = All Fitting rs → bytes ≡ records-text rs → after ≡ filled (joined part rs) was
+RowsWritten part rs bytes was after = AllByRecursion Fitting rs → bytes ≡ records_text rs → after ≡ filled (flat_map part rs) was

@@ -1,11 +1,10 @@
-ghost use Prim.Native.Nat.{_≤_};
-ghost use lib.ListN.{length};
-ghost use Rattle·sites·specs.Heads.{Reached, RecordsRead};
+ghost use Rattle.std.specs.Prelude.{◌≤◌, length};
+ghost use Rattle.sites.specs.Heads.{Reached, RecordsRead};
+
 use crate::heads::read_head;
 use crate::lines::first_record;
 use crate::reading::Reading;
-use crate::refusal::SiteFault;
-use crate::refusal::SiteRefusal;
+use crate::refusal::{SiteFault, SiteRefusal};
 use crate::rooms::Rooms;
 
 // The records from the third on, which begins at `start`.
@@ -15,9 +14,9 @@ fn read_body(
     head: Reading,
     start: usize,
 ) -> Result<Reading, SiteRefusal>
-    requires short { ⌜ length (now bytes) ≤ 16384 ⌝ }
-    requires reached { ⌜ Reached rooms (now bytes) start 3 head ⌝ }
-    ensures { λ r. ⌜ RecordsRead rooms (now (bytes .entry)) r ⌝ }
+    requires short { length bytes.now ≤ 16384 }
+    requires reached { Reached rooms bytes.now start 3 head }
+    ensures { RecordsRead rooms bytes.now result }
 {
     let mut reading = head;
     let mut at = start;
@@ -41,8 +40,8 @@ fn read_body(
 
 // What all records say, or the first line that is not read; no table is written.
 pub(crate) fn read_records(bytes: &[u8], rooms: Rooms) -> Result<Reading, SiteRefusal>
-    requires { ⌜ length (now bytes) ≤ 16384 ⌝ }
-    ensures { λ r. ⌜ RecordsRead rooms (now (bytes .entry)) r ⌝ }
+    requires { length bytes.now ≤ 16384 }
+    ensures { RecordsRead rooms bytes.now result }
 {
     match read_head(bytes) {
         Ok(head) => read_body(bytes, rooms, head.0, head.1),

@@ -1,16 +1,15 @@
-ghost use Rattle·sites·specs.Heads.{HorizonRead, PlacesRead, HeadRead};
+ghost use Rattle.sites.specs.Heads.{HorizonRead, PlacesRead, HeadRead};
+
 use crate::lines::first_record;
 use crate::reading::Reading;
 use crate::records::Record;
-use crate::refusal::SiteFault;
-use crate::refusal::SiteRefusal;
-use carts::Cart;
-use carts::Draft;
+use crate::refusal::{SiteFault, SiteRefusal};
+use carts::{Cart, Draft};
 use floors::LaneFloor;
 
 // The first record: a draft, and how many bytes long the record is.
 fn read_horizon(bytes: &[u8]) -> Result<(Draft, usize), SiteFault>
-    ensures { λ r. ⌜ HorizonRead (now (bytes .entry)) r ⌝ }
+    ensures { HorizonRead bytes.now result }
 {
     let Some((record, length)) = first_record(bytes) else {
         return Err(SiteFault::Misread);
@@ -26,7 +25,7 @@ fn read_horizon(bytes: &[u8]) -> Result<(Draft, usize), SiteFault>
 
 // The second record: a floor without lanes, and how many bytes long the record is.
 fn read_places(bytes: &[u8]) -> Result<(LaneFloor, usize), SiteFault>
-    ensures { λ r. ⌜ PlacesRead (now (bytes .entry)) r ⌝ }
+    ensures { PlacesRead bytes.now result }
 {
     let Some((record, length)) = first_record(bytes) else {
         return Err(SiteFault::Misread);
@@ -42,7 +41,7 @@ fn read_places(bytes: &[u8]) -> Result<(LaneFloor, usize), SiteFault>
 
 // What the first two records say, and where the third begins.
 pub(crate) fn read_head(bytes: &[u8]) -> Result<(Reading, usize), SiteRefusal>
-    ensures { λ r. ⌜ HeadRead (now (bytes .entry)) r ⌝ }
+    ensures { HeadRead bytes.now result }
 {
     let (draft, first) = match read_horizon(bytes) {
         Ok(read) => read,

@@ -1,3 +1,5 @@
+#![tactic(auto)]
+
 mod bodies;
 mod heads;
 mod lines;
@@ -12,10 +14,8 @@ pub mod site;
 mod tests;
 mod writing;
 
-pub use promises::format_stands;
-pub use promises::reading_stands;
+pub use promises::{format_stands, reading_stands};
 pub use reader::read_site;
 pub use records::Record;
-pub use refusal::SiteFault;
-pub use refusal::SiteRefusal;
+pub use refusal::{SiteFault, SiteRefusal};
 pub use site::Site;

@@ -1,16 +1,14 @@
-ghost use mathlib.Core.List.{[], _∷_};
-ghost use Prim.Native.Nat.{_≤_};
-ghost use Rattle·std.specs.Written.{decimal};
-ghost use Rattle·sites·specs.Records.{Fitting, line-text, numbers-text};
-ghost use Rattle·sites·specs.Reading.{ReadAs, ReadNumber, ReadFirst, lane-numbers};
+ghost use Rattle.std.specs.Prelude.{◌≤◌, [], ◌∷◌, decimal};
+ghost use Rattle.sites.specs.Records.{Fitting, line_text, numbers_text};
+ghost use Rattle.sites.specs.Reading.{ReadAs, ReadNumber, ReadFirst, lane_numbers};
+
 use crate::records::Record;
-use digits::read_number;
-use digits::split_once;
+use digits::{read_number, split_once};
 use floors::LaneRow;
 
 // The number that the bytes write, if at most 65,535.
 fn number(bytes: &[u8]) -> Option<u16>
-    ensures { λ r. ⌜ ReadAs decimal (λ n. n ≤ 65535) (now (bytes .entry)) r ⌝ }
+    ensures { ReadAs decimal (λ n. n ≤ 65535) bytes.now result }
 {
     match read_number(bytes, 65_535) {
         Ok(value) => Some(value as u16),
@@ -20,7 +18,7 @@ fn number(bytes: &[u8]) -> Option<u16>
 
 // A number between two spaces, and the bytes from the second space on.
 fn next_number(bytes: &[u8]) -> Option<(u16, &[u8])>
-    ensures { λ r. ⌜ ReadNumber (now (bytes .entry)) r ⌝ }
+    ensures { ReadNumber bytes.now result }
 {
     let [b' ', rest @ ..] = bytes else {
         return None;
@@ -36,7 +34,7 @@ fn next_number(bytes: &[u8]) -> Option<(u16, &[u8])>
 
 // One number after a space.
 fn one(bytes: &[u8]) -> Option<u16>
-    ensures { λ r. ⌜ ReadAs (λ n. numbers-text (n ∷ [])) (λ n. n ≤ 65535) (now (bytes .entry)) r ⌝ }
+    ensures { ReadAs (λ n. numbers_text (n ∷ [])) (λ n. n ≤ 65535) bytes.now result }
 {
     let [b' ', digits @ ..] = bytes else {
         return None;
@@ -46,7 +44,7 @@ fn one(bytes: &[u8]) -> Option<u16>
 
 // Two numbers, each after a space.
 fn two(bytes: &[u8]) -> Option<(u16, u16)>
-    ensures { λ r. ⌜ ReadAs (λ p. numbers-text (p .0 ∷ (p .1 ∷ []))) (λ p. (p .0 ≤ 65535) × (p .1 ≤ 65535)) (now (bytes .entry)) r ⌝ }
+    ensures { ReadAs (λ p. numbers_text (p.0 ∷ (p.1 ∷ []))) (λ p. (p.0 ≤ 65535) × (p.1 ≤ 65535)) bytes.now result }
 {
     let Some((first, rest)) = next_number(bytes) else {
         return None;
@@ -59,7 +57,7 @@ fn two(bytes: &[u8]) -> Option<(u16, u16)>
 
 // The three numbers of a lane, each after a space.
 fn lane(bytes: &[u8]) -> Option<LaneRow>
-    ensures { λ r. ⌜ ReadAs (λ l. numbers-text (lane-numbers l)) (λ l. (l .from ≤ 65535) × (l .to ≤ 65535) × (l .line ≤ 65535)) (now (bytes .entry)) r ⌝ }
+    ensures { ReadAs (λ l. numbers_text (lane_numbers l)) (λ l. (l.from ≤ 65535) × (l.to ≤ 65535) × (l.line ≤ 65535)) bytes.now result }
 {
     let Some((from, rest)) = next_number(bytes) else {
         return None;
@@ -72,7 +70,7 @@ fn lane(bytes: &[u8]) -> Option<LaneRow>
 
 // The record that a line holds, its newline left out.
 fn read_line(line: &[u8]) -> Option<Record>
-    ensures { λ r. ⌜ ReadAs line-text Fitting (now (line .entry)) r ⌝ }
+    ensures { ReadAs line_text Fitting line.now result }
 {
     match line {
         [b'H', b'Z', rest @ ..] => match one(rest) {
@@ -105,7 +103,7 @@ fn read_line(line: &[u8]) -> Option<Record>
 
 // The record at the front of the bytes, and how many bytes long it is.
 pub(crate) fn first_record(bytes: &[u8]) -> Option<(Record, usize)>
-    ensures { λ r. ⌜ ReadFirst (now (bytes .entry)) r ⌝ }
+    ensures { ReadFirst bytes.now result }
 {
     let Some((line, below)) = split_once(bytes, b'\n') else {
         return None;

@@ -1,15 +1,13 @@
-ghost use Rattle·sites·specs.Reader.{SiteRead, tables};
+ghost use Rattle.sites.specs.Reader.{SiteRead, tables};
+
 use crate::bodies::read_records;
 use crate::reading::Reading;
-use crate::refusal::SiteFault;
-use crate::refusal::SiteRefusal;
+use crate::refusal::{SiteFault, SiteRefusal};
 use crate::rooms::Rooms;
 use crate::site::Site;
 use crate::writing::write_rows;
 use carts::Cart;
-use costs::Pair;
-use costs::Total;
-use costs::Worst;
+use costs::{Pair, Total, Worst};
 use floors::LaneRow;
 
 const MOST_BYTES: usize = 16_384;
@@ -22,7 +20,7 @@ pub fn read_site(
     tariff: &mut [Pair<Total, Worst>],
     carts: &mut [Cart],
 ) -> Result<Site, SiteRefusal>
-    ensures { λ r. ⌜ SiteRead (now (bytes .entry)) (tables (now (lanes .entry)) (now (tariff .entry)) (now (carts .entry))) (tables (now (lanes .exit)) (now (tariff .exit)) (now (carts .exit))) r ⌝ }
+    ensures { SiteRead bytes.now (tables lanes.old tariff.old carts.old) (tables lanes.new tariff.new carts.new) result }
 {
     if bytes.len() > MOST_BYTES {
         return Err(SiteRefusal {

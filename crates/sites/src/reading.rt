@@ -1,5 +1,4 @@
-use carts::Cart;
-use carts::Draft;
+use carts::{Cart, Draft};
 use floors::LaneFloor;
 
 mod taking;

@@ -1,11 +1,8 @@
-ghost use mathlib.Core.Path.{_≡_};
-ghost use Rattle·sites·specs.Refusals.{refusal-numbers};
+ghost use Rattle.std.specs.Prelude.{◌≡◌};
+ghost use Rattle.sites.specs.Refusals.{refusal_numbers};
+
 use carts::DraftRefusal;
-use carts::draft_refusal::DraftRefusalDebug;
-use carts::draft_refusal::DraftRefusalPartialEq;
 use floors::FloorRefusal;
-use floors::refusal::FloorRefusalDebug;
-use floors::refusal::FloorRefusalPartialEq;
 
 // Why a site is not read.
 #[derive(Clone, Copy, PartialEq, Eq, Debug)]
@@ -31,7 +28,7 @@ pub struct SiteRefusal {
 impl SiteRefusal {
     // The refusal's number, its line, the number of the refusal that it carries, and that one's row; 0 where there is none.
     pub fn numbers(self) -> [u16; 4]
-        ensures { λ r. ⌜ r ≡ refusal-numbers self ⌝ }
+        ensures { result ≡ refusal_numbers self }
     {
         let (carried, row) = match self.fault {
             SiteFault::TooLong | SiteFault::Misread | SiteFault::NoRow => (0, 0),

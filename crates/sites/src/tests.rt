@@ -1,10 +1,7 @@
 use super::*;
 use carts::Cart;
-use costs::Pair;
-use costs::Total;
-use costs::Worst;
+use costs::{Pair, Total, Worst};
 use floors::LaneRow;
-use std::test::*;
 
 // The numbers of the refusal over tables of 5 lanes, 2 tariff lines and 7 carts, or zeros.
 fn refused(bytes: &[u8]) -> [u16; 4] {
@@ -25,43 +22,43 @@ fn refused(bytes: &[u8]) -> [u16; 4] {
 }
 
 #[test]
-fn sites_are_read_or_refused() -> Result<(), Fail> {
-    check_eq(refused(b"HZ 2\nPL 4\n"), [0; 4])?;
-    check_eq(
+fn sites_are_read_or_refused(rt: HostRuntime) {
+    assert_eq!(rt; refused(b"HZ 2\nPL 4\n"), [0; 4]);
+    assert_eq!(rt;
         refused(b"HZ 2\nPL 4\nLN 0 1 9\nLB 0 3 0\nTF 65535 0\nCT 0 127\n"),
-        [0; 4],
-    )?;
-    check_eq(refused(b""), [20, 1, 0, 0])?;
-    check_eq(refused(b"HZ 2\n"), [20, 2, 0, 0])?;
-    check_eq(refused(b"HZ 65\nPL 4\n"), [20, 1, 1, 0])?;
-    check_eq(refused(b"HZ 02\nPL 4\n"), [20, 1, 0, 0])?;
-    check_eq(refused(b"HZ 2\nPL 129\n"), [20, 2, 6, 0])?;
-    check_eq(refused(b"HZ 2\nPL 4"), [20, 2, 0, 0])?;
-    check_eq(refused(b"HZ 2\nPL 4\nTF 65536 1\n"), [20, 3, 0, 0])?;
-    check_eq(refused(b"HZ 2\nPL 4\nTF 1  1\n"), [20, 3, 0, 0])?;
-    check_eq(refused(b"HZ 2\nPL 4\nTF 1 1\nLN 0 1 0\n"), [20, 4, 0, 0])
+        [0; 4]
+    );
+    assert_eq!(rt; refused(b""), [20, 1, 0, 0]);
+    assert_eq!(rt; refused(b"HZ 2\n"), [20, 2, 0, 0]);
+    assert_eq!(rt; refused(b"HZ 65\nPL 4\n"), [20, 1, 1, 0]);
+    assert_eq!(rt; refused(b"HZ 02\nPL 4\n"), [20, 1, 0, 0]);
+    assert_eq!(rt; refused(b"HZ 2\nPL 129\n"), [20, 2, 6, 0]);
+    assert_eq!(rt; refused(b"HZ 2\nPL 4"), [20, 2, 0, 0]);
+    assert_eq!(rt; refused(b"HZ 2\nPL 4\nTF 65536 1\n"), [20, 3, 0, 0]);
+    assert_eq!(rt; refused(b"HZ 2\nPL 4\nTF 1  1\n"), [20, 3, 0, 0]);
+    assert_eq!(rt; refused(b"HZ 2\nPL 4\nTF 1 1\nLN 0 1 0\n"), [20, 4, 0, 0]);
 }
 
 #[test]
-fn calls_refuse_records() -> Result<(), Fail> {
-    check_eq(refused(b"HZ 2\nPL 4\nLB 0 1 0\nLN 1 4 0\n"), [20, 4, 7, 2])?;
-    check_eq(
+fn calls_refuse_records(rt: HostRuntime) {
+    assert_eq!(rt; refused(b"HZ 2\nPL 4\nLB 0 1 0\nLN 1 4 0\n"), [20, 4, 7, 2]);
+    assert_eq!(rt;
         refused(b"HZ 2\nPL 4\nLB 0 1 0\nLB 0 1 0\nLB 0 1 0\n"),
-        [20, 5, 0, 0],
-    )?;
-    check_eq(
+        [20, 5, 0, 0]
+    );
+    assert_eq!(rt;
         refused(b"HZ 2\nPL 4\nTF 1 1\nTF 1 1\nTF 1 1\n"),
-        [20, 5, 0, 0],
-    )?;
-    check_eq(refused(b"HZ 2\nPL 4\nCT 0 128\n"), [20, 3, 3, 0])?;
-    check_eq(refused(b"HZ 2\nPL 4\nCT 0 1\nCT 0 1\n"), [20, 4, 4, 0])?;
-    check_eq(refused(b"HZ 2\nPL 4\nCT 0 1\nCT 1 1\n"), [20, 4, 5, 0])?;
-    check_eq(
+        [20, 5, 0, 0]
+    );
+    assert_eq!(rt; refused(b"HZ 2\nPL 4\nCT 0 128\n"), [20, 3, 3, 0]);
+    assert_eq!(rt; refused(b"HZ 2\nPL 4\nCT 0 1\nCT 0 1\n"), [20, 4, 4, 0]);
+    assert_eq!(rt; refused(b"HZ 2\nPL 4\nCT 0 1\nCT 1 1\n"), [20, 4, 5, 0]);
+    assert_eq!(rt;
         refused(b"HZ 2\nPL 4\nCT 0 1\nCT 1 2\nCT 2 3\nCT 3 4\nCT 4 5\nCT 5 6\n"),
-        [0; 4],
-    )?;
-    check_eq(
+        [0; 4]
+    );
+    assert_eq!(rt;
         refused(b"HZ 2\nPL 4\nCT 0 1\nCT 1 2\nCT 2 3\nCT 3 4\nCT 4 5\nCT 5 6\nCT 6 7\n"),
-        [20, 9, 2, 0],
-    )
+        [20, 9, 2, 0]
+    );
 }

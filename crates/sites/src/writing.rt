@@ -1,15 +1,11 @@
-ghost use mathlib.Core.Path.{_≡_};
-ghost use mathlib.Core.List.{List};
-ghost use Prim.Native.Nat.{_+_, _≤_};
-ghost use lib.ListN.{length};
-ghost use Rattle·sites·specs.Records.{Fitting};
-ghost use Rattle·sites·specs.Sites.{lanes-in, tariff-in};
-ghost use Rattle·sites·specs.Writing.{put, Writable, RowsWritten};
+ghost use Rattle.std.specs.Prelude.{◌≡◌, ◌+◌, ◌≤◌, List, length};
+ghost use Rattle.sites.specs.Records.{Fitting};
+ghost use Rattle.sites.specs.Sites.{lanes_in, tariff_in};
+ghost use Rattle.sites.specs.Writing.{put, Writable, RowsWritten};
+
 use crate::lines::first_record;
 use crate::records::Record;
-use costs::Pair;
-use costs::Total;
-use costs::Worst;
+use costs::{Pair, Total, Worst};
 use floors::LaneRow;
 
 // How many rows are written.
@@ -26,11 +22,11 @@ fn write_record(
     tariff: &mut [Pair<Total, Worst>],
     written: Written,
 ) -> Written
-    requires fitting { ⌜ Fitting «record» ⌝ }
-    requires lanes { ⌜ written .lanes + length (lanes-in «record») ≤ length (now lanes) ⌝ }
-    requires tariff { ⌜ written .tariff + length (tariff-in «record») ≤ length (now tariff) ⌝ }
-    ensures lanes { λ r. ⌜ now (lanes .exit) ≡ put (now (lanes .entry)) (written .lanes) (lanes-in «record») ⌝ ∗ ⌜ r .lanes ≡ written .lanes + length (lanes-in «record») ⌝ }
-    ensures tariff { λ r. ⌜ now (tariff .exit) ≡ put (now (tariff .entry)) (written .tariff) (tariff-in «record») ⌝ ∗ ⌜ r .tariff ≡ written .tariff + length (tariff-in «record») ⌝ }
+    requires fitting { Fitting «record» }
+    requires lanes { written.lanes + length (lanes_in «record») ≤ length lanes.old }
+    requires tariff { written.tariff + length (tariff_in «record») ≤ length tariff.old }
+    ensures lanes { (lanes.new ≡ put lanes.old written.lanes (lanes_in «record»)) × (result.lanes ≡ written.lanes + length (lanes_in «record»)) }
+    ensures tariff { (tariff.new ≡ put tariff.old written.tariff (tariff_in «record»)) × (result.tariff ≡ written.tariff + length (tariff_in «record»)) }
 {
     let Written {
         lanes: lane,
@@ -74,9 +70,9 @@ fn write_record(
 
 // Writes the lanes and the tariff lines of a site that was read.
 pub(crate) fn write_rows(bytes: &[u8], lanes: &mut [LaneRow], tariff: &mut [Pair<Total, Worst>])
-    requires { ⌜ Writable (now bytes) (length (now lanes)) (length (now tariff)) ⌝ }
-    ensures lanes { λ _. ⌜ ((rs : List Record) → RowsWritten lanes-in rs (now (bytes .entry)) (now (lanes .entry)) (now (lanes .exit))) ⌝ }
-    ensures tariff { λ _. ⌜ ((rs : List Record) → RowsWritten tariff-in rs (now (bytes .entry)) (now (tariff .entry)) (now (tariff .exit))) ⌝ }
+    requires { Writable bytes.now (length lanes.old) (length tariff.old) }
+    ensures lanes { (rs : List Record) → RowsWritten lanes_in rs bytes.now lanes.old lanes.new }
+    ensures tariff { (rs : List Record) → RowsWritten tariff_in rs bytes.now tariff.old tariff.new }
 {
     let mut written = Written {
         lanes: 0,

@@ -1,5 +1,6 @@
-ghost use mathlib.Core.Path.{_≡_};
-ghost use Rattle·carts·specs.Drafts.{Started, Entered, start-among, goal-among};
+ghost use Rattle.std.specs.Prelude.{◌≡◌};
+ghost use Rattle.carts.specs.Drafts.{Started, Entered, start_among, goal_among};
+
 use crate::cart::Cart;
 use crate::draft::Draft;
 use crate::draft_refusal::DraftRefusal;
@@ -12,8 +13,8 @@ const LAST_PLACE: u16 = 127;
 
 // Whether a cart starts at one place, and whether a cart goes to the other.
 fn taken(rows: &[Cart], start: u16, goal: u16) -> (bool, bool)
-    ensures start { λ r. ⌜ r .0 ≡ start-among start (now (rows .entry)) ⌝ }
-    ensures goal { λ r. ⌜ r .1 ≡ goal-among goal (now (rows .entry)) ⌝ }
+    ensures start { result.0 ≡ start_among start rows.now }
+    ensures goal { result.1 ≡ goal_among goal rows.now }
 {
     let mut starts = false;
     let mut goals = false;
@@ -31,7 +32,7 @@ fn taken(rows: &[Cart], start: u16, goal: u16) -> (bool, bool)
 impl Draft {
     // A draft without carts.
     pub fn start(horizon: u16) -> Result<Draft, DraftRefusal>
-        ensures { λ r. ⌜ Started horizon r ⌝ }
+        ensures { Started horizon result }
     {
         if horizon < 1 || horizon > MOST_TICKS {
             return Err(DraftRefusal::BadHorizon);
@@ -43,14 +44,14 @@ impl Draft {
     }
 
     pub fn horizon(&self) -> u8
-        ensures { λ r. ⌜ r ≡ now (self .entry) .horizon ⌝ }
+        ensures { result ≡ self.now.horizon }
     {
         self.horizon
     }
 
     // How many carts are entered.
     pub fn carts(&self) -> u8
-        ensures { λ r. ⌜ r ≡ now (self .entry) .carts ⌝ }
+        ensures { result ≡ self.now.carts }
     {
         self.carts
     }
@@ -62,7 +63,7 @@ impl Draft {
         start: u16,
         goal: u16,
     ) -> Result<Draft, (Draft, DraftRefusal)>
-        ensures { λ r. ⌜ Entered self (now (rows .entry)) start goal (now (rows .exit)) r ⌝ }
+        ensures { Entered self rows.old start goal rows.new result }
     {
         let row = self.carts as usize;
         if row >= MOST_CARTS || row >= rows.len() {

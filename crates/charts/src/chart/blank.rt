@@ -1,4 +1,5 @@
-ghost use Rattle·charts·specs.Charts.{Blank};
+ghost use Rattle.charts.specs.Charts.{Blank};
+
 use crate::chart::Chart;
 use crate::inbound::Inbound;
 use crate::ticks::Ticks;
@@ -6,7 +7,7 @@ use crate::ticks::Ticks;
 impl Chart {
     // A chart with nothing shut, and nothing closed.
     pub fn blank() -> Chart
-        ensures { λ r. ⌜ Blank r ⌝ }
+        ensures { Blank result }
     {
         Chart {
             begins: [0; 129],

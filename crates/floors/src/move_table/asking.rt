@@ -1,10 +1,14 @@
-ghost use Rattle·floors·specs.MoveTables.{table-moves};
+ghost use Rattle.floors.specs.MoveTables.{table_moves};
+ghost use Rattle.floors.specs.Tables.{table_bounds};
+
 use crate::floor::Floor;
 use crate::move_table::MoveTable;
 use crate::step::Step;
 
-pub impl Floor for MoveTable as MoveTableFloor {
-    ghost moves = { table-moves };
+impl Floor for MoveTable {
+    ghost moves = { table_moves };
+
+    ghost bounds = { table_bounds };
 
     fn places(&self) -> u8 {
         self.places

@@ -1,5 +1,6 @@
-ghost use mathlib.Core.List.{[]};
-ghost use lib.ListN.{set};
+ghost use Rattle.std.specs.Prelude.{[], slice_set};
+ghost use Rattle.floors.specs.Shut.{shut_bounds};
+
 use crate::floor::Floor;
 use crate::step::Step;
 
@@ -10,8 +11,10 @@ pub struct Shut<F> {
     pub place: u8,
 }
 
-pub impl<F: Floor> Floor for Shut<F> as ShutFloor {
-    ghost moves = { λ s. set (F·Floor .moves (s .below)) (s .place) [] };
+impl<F: Floor> Floor for Shut<F> {
+    ghost moves = { λ s. slice_set (F.Floor.moves s.below) s.place [] };
+
+    ghost bounds = { λ s. shut_bounds _ s.place (F.Floor.bounds s.below) };
 
     fn places(&self) -> u8 {
         self.below.places()

@@ -1,5 +1,5 @@
-use Rattle·rules·proofs.advances_right.Needs as need
-use Rattle·rules·proofs.Advances.{advances-right}
+use Rattle.rules.proofs.advances_right.Goals as goal
+use Rattle.rules.proofs.Advances.{advances_right}
 
-pub returns : need.returns
-returns g c = advances-right
+pub returns : goal.returns
+returns g c = advances_right

@@ -1,5 +1,5 @@
-use Rattle·rules·proofs.choices_right.Needs as need
-use Rattle·rules·proofs.Serving.{choices-right}
+use Rattle.rules.proofs.choices_right.Goals as goal
+use Rattle.rules.proofs.Serving.{choices_right}
 
-pub returns : need.returns
-returns g c = choices-right
+pub returns : goal.returns
+returns g c = choices_right

@@ -1,5 +1,5 @@
-use Rattle·rules·proofs.clear_right.Needs as need
-use Rattle·rules·proofs.Plans.{clear-right}
+use Rattle.rules.proofs.clear_right.Goals as goal
+use Rattle.rules.proofs.Plans.{clear_right}
 
-pub returns : need.returns
-returns g c = clear-right
+pub returns : goal.returns
+returns g c = clear_right

@@ -1,5 +1,5 @@
-use Rattle·rules·proofs.first_conflict_right.Needs as need
-use Rattle·rules·proofs.Conflicts.{first-conflict-right}
+use Rattle.rules.proofs.first_conflict_right.Goals as goal
+use Rattle.rules.proofs.Conflicts.{first_conflict_right}
 
-pub returns : need.returns
-returns c = first-conflict-right
+pub returns : goal.returns
+returns c = first_conflict_right

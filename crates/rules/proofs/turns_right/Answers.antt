@@ -1,5 +1,5 @@
-use Rattle·rules·proofs.turns_right.Needs as need
-use Rattle·rules·proofs.Turns.{turns-right}
+use Rattle.rules.proofs.turns_right.Goals as goal
+use Rattle.rules.proofs.Turns.{turns_right}
 
-pub returns : need.returns
-returns g c = turns-right
+pub returns : goal.returns
+returns g c = turns_right

@@ -1,8 +1,7 @@
-ghost use mathlib.Core.Path.{_≡_};
-ghost use Prim.Native.Nat.{_+_, _^_, _<_};
-ghost use Rattle·std.specs.Vec.{made};
-ghost use Rattle·sites·specs.Sites.{SiteData};
-ghost use Rattle·sites·specs.Holding.{Holds, LaneTaken, CartTaken, TookNext};
+ghost use Rattle.std.specs.Prelude.{◌≡◌, ◌+◌, ◌^◌, ◌<◌, IfOk};
+ghost use Rattle.sites.specs.Sites.{SiteData};
+ghost use Rattle.sites.specs.Holding.{Holds, LaneTaken, CartTaken, TookNext};
+
 use crate::reading::Reading;
 use crate::records::Record;
 use crate::refusal::SiteFault;
@@ -19,7 +18,7 @@ const CART: u8 = 5;
 impl Reading {
     // One record more, if it may follow, has its rows, and is not refused by its call.
     pub(crate) fn take(self, record: Record, rooms: Rooms) -> Result<Reading, SiteFault>
-        ensures { λ r. ⌜ TookNext self rooms «record» r ⌝ }
+        ensures { TookNext self rooms «record» result }
     {
         match record {
             Record::Horizon(_) => Err(SiteFault::Misread),
@@ -32,7 +31,7 @@ impl Reading {
     }
 
     fn take_lane(self, row: LaneRow, rooms: Rooms) -> Result<Reading, SiteFault>
-        ensures { λ r. ⌜ TookNext self rooms (Record.Lane row) r ⌝ }
+        ensures { TookNext self rooms (Record.Lane row) result }
     {
         if self.rank > LANE {
             return Err(SiteFault::Misread);
@@ -44,7 +43,7 @@ impl Reading {
     }
 
     fn take_both(self, row: LaneRow, rooms: Rooms) -> Result<Reading, SiteFault>
-        ensures { λ r. ⌜ TookNext self rooms (Record.BothLanes row) r ⌝ }
+        ensures { TookNext self rooms (Record.BothLanes row) result }
     {
         if self.rank > LANE {
             return Err(SiteFault::Misread);
@@ -64,9 +63,9 @@ impl Reading {
 
     // A lane that has a row.
     fn add_lane(self, row: LaneRow) -> Result<Reading, SiteFault>
-        requires { ⌜ self .lanes + 1 < 2 ^ 64 ⌝ }
-        ensures taken { λ r. ⌜ ((s : SiteData) → Holds s self → LaneTaken s row r) ⌝ }
-        ensures kept { λ r. ⌜ made r (λ x. (x .lanes ≡ self .lanes + 1) × (x .rank ≡ 3)) ⌝ }
+        requires { self.lanes + 1 < 2 ^ 64 }
+        ensures taken { (s : SiteData) → Holds s self → LaneTaken s row result }
+        ensures kept { IfOk result (λ x. (x.lanes ≡ self.lanes + 1) × (x.rank ≡ 3)) }
     {
         let Reading {
             draft,
@@ -90,7 +89,7 @@ impl Reading {
     }
 
     fn take_line(self, total: u16, worst: u16, rooms: Rooms) -> Result<Reading, SiteFault>
-        ensures { λ r. ⌜ TookNext self rooms (Record.Tariff total worst) r ⌝ }
+        ensures { TookNext self rooms (Record.Tariff total worst) result }
     {
         if self.rank > LINE {
             return Err(SiteFault::Misread);
@@ -118,8 +117,8 @@ impl Reading {
 
     // A cart in a table of so many rows.
     fn add_cart(self, rows: usize, start: u16, goal: u16) -> Result<Reading, SiteFault>
-        ensures taken { λ r. ⌜ ((s : SiteData) → Holds s self → CartTaken rows s start goal r) ⌝ }
-        ensures kept { λ r. ⌜ made r (λ x. x .rank ≡ 5) ⌝ }
+        ensures taken { (s : SiteData) → Holds s self → CartTaken rows s start goal result }
+        ensures kept { IfOk result (λ x. x.rank ≡ 5) }
     {
         let Reading {
             draft,

@@ -1,32 +1,28 @@
-use mathlib.Core.Path.{_≡_, subst}
-use mathlib.Core.List.{map}
-use borrow.Author.Needs.{needs}
-use native.Mathlib.Omega.{arith}
-use lib.ListN.{length}
-use Rattle·rules.specs.Walks.{forbids-place, forbids-move, any-of}
-use Rattle·charts·specs.Charts.{Barred}
-use Rattle·charts·proofs.Marking.{indexed-rising}
-use Rattle·charts·proofs.drawing.draw.Needs as need
+use Rattle.std.proofs.Common.{◌≡◌, map, length, subst, arith, rules}
+use Rattle.rules.specs.Walks.{forbids_place, forbids_move, any_of}
+use Rattle.charts.specs.Charts.{Barred}
+use Rattle.charts.proofs.Marking.{indexed_rising}
+use Rattle.charts.proofs.drawing.draw.Goals as goal
 
-pub mark-all-requires : need.mark-all-requires
-mark-all-requires g c κs =
-    let floor = c .args .floor .now in
-    let begins = c .fill-index .last .begins in
-    let moves = c .fill-index .last .moves in
-    let begins-long : length begins ≡ 129 = search needs in
-    let moves-long : length moves ≡ 1024 = search needs in
+pub mark_all-requires : goal.mark_all-requires
+mark_all-requires g c =
+    let floor = c.args.floor.now in
+    let begins = c.fill_index.new.begins in
+    let moves = c.fill_index.new.moves in
+    let begins_long : length begins ≡ 129 = search rules in
+    let moves_long : length moves ≡ 1024 = search rules in
     record {
-      index = indexed-rising (g .F·Floor .moves floor) begins moves (c .places .result) (c .places .ensures) (omega (arith, c .places .ensures, g .F·Floor·met .bounds floor .few-places)) begins-long moves-long (c .fill-index .ensures);
-      cells = search needs;
-      moves = search needs;
+      index = indexed_rising (g.F.Floor.moves floor) begins moves c.places.result c.places.ensures (omega (arith, c.places.ensures, (g.met.F.Floor.bounds floor).few_places)) begins_long moves_long c.fill_index.ensures;
+      cells = search rules;
+      moves = search rules;
     }
 
-pub returns : need.returns
+pub returns : goal.returns
 returns g c =
-    let chart = c .args .chart .now in
-    let begins = c .fill-index .last .begins in
-    let moves = c .fill-index .last .moves in
-    let cart = c .args .cart in
-    let cs = map (g .B·Constrains .constraint) (c .args .constraints .now) in
-    let barred = subst (λ n. Barred begins moves n (chart .shut) (c .mark-all .last .shut) (chart .closed) (c .mark-all .last .closed) (λ p t. any-of (forbids-place cart p t) cs) (λ u p t. any-of (forbids-move cart u p t) cs)) (c .places .ensures) (c .mark-all .ensures) in
-    record { indexed = c .fill-index .ensures; shut = barred .cells; closed = barred .departures; other-cells = barred .other-cells; other-moves = barred .other-moves }
+    let chart = c.args.chart.now in
+    let begins = c.fill_index.new.begins in
+    let moves = c.fill_index.new.moves in
+    let cart = c.args.cart in
+    let cs = map g.B.Constrains.constraint c.args.constraints.now in
+    let barred = subst (λ n. Barred begins moves n chart.shut c.mark_all.new.shut chart.closed c.mark_all.new.closed (λ p t. any_of (forbids_place cart p t) cs) (λ u p t. any_of (forbids_move cart u p t) cs)) c.places.ensures c.mark_all.ensures in
+    record { indexed = c.fill_index.ensures; shut = barred.cells; closed = barred.departures; other_cells = barred.other_cells; other_moves = barred.other_moves }

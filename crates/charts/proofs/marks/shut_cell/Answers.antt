@@ -1,13 +1,13 @@
-use native.Mathlib.Omega.{arith}
-use Rattle·charts·proofs.Marking.{cell-in, shut-one, shut-others}
-use Rattle·charts·proofs.marks.shut_cell.Needs as need
+use Rattle.std.proofs.Common.{arith}
+use Rattle.charts.proofs.Marking.{cell_in, shut_one, shut_others}
+use Rattle.charts.proofs.marks.shut_cell.Goals as goal
 
-pub index-shut-tick : need.index-shut-tick
-index-shut-tick c = omega (arith, cell-in (c .args .places) (c .args .tick) (c .args .place) (c .pre .few) (c .if-tick-le64 .taken) (c .if-place-places .taken), c .pre .long)
+pub bounds-shut-tick : goal.bounds-shut-tick
+bounds-shut-tick c = omega (arith, cell_in c.args.places c.args.tick c.args.place c.requires.few c.if-tick-le64.true c.if-place-places.true, c.requires.long)
 
-pub returns-then-tick-le64 : need.returns-then-tick-le64
+pub returns-then-tick-le64 : goal.returns-then-tick-le64
 returns-then-tick-le64 c =
     record {
-      shut = shut-one (c .args .places) (c .args .shut .now) (c .args .place) (c .args .tick) (c .pre .long) (c .pre .few) (c .if-place-places .taken) (c .if-tick-le64 .taken);
-      others = shut-others (c .args .places) (c .args .shut .now) (c .args .place) (c .args .tick) (c .if-place-places .taken) (c .if-tick-le64 .taken);
+      shut = shut_one c.args.places c.args.shut.now c.args.place c.args.tick c.requires.long c.requires.few c.if-place-places.true c.if-tick-le64.true;
+      others = shut_others c.args.places c.args.shut.now c.args.place c.args.tick c.if-place-places.true c.if-tick-le64.true;
     }

@@ -1,5 +1,5 @@
-use Rattle·costs·proofs.TextLaws.{apart}
-use Rattle·costs·proofs.promises.texts_apart.Needs as need
+use Rattle.costs.specs.TextLaws.{apart}
+use Rattle.costs.proofs.promises.texts_apart.Goals as goal
 
-pub returns : need.returns
-returns g c = apart (g .C·Text·met .texts)
+pub returns : goal.returns
+returns g c = apart g.met.C.Text.texts

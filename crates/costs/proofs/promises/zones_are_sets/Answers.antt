@@ -1,5 +1,5 @@
-use Rattle·costs·proofs.ZonesAreSets.{are-sets}
-use Rattle·costs·proofs.promises.zones_are_sets.Needs as need
+use Rattle.costs.proofs.ZonesAreSets.{are_sets}
+use Rattle.costs.proofs.promises.zones_are_sets.Goals as goal
 
-pub returns : need.returns
-returns c = are-sets
+pub returns : goal.returns
+returns c = are_sets

@@ -1,22 +1,18 @@
-use mathlib.Core.Path.{subst}
-use mathlib.Core.List.{List}
-use Prim.Native.Nat.{ℕ}
-use native.Mathlib.Omega.{arith}
-use borrow.Author.Needs.{needs}
-use Rattle·std.specs.Text.{In}
-use Rattle·std.specs.shelf.Lists.{All}
-use Rattle·std.proofs.shelf.Elements.{all-more, all-getD}
-use Rattle·std.proofs.shelf.Lists.{take-all}
-use Rattle·digits·proofs.numbers.all_digits.Needs as need
+use Rattle.std.proofs.Common.{ℕ, List, subst, arith, rules}
+use Rattle.std.specs.Int.{IsInRange}
+use Rattle.std.specs.List.{AllByRecursion}
+use Rattle.std.proofs.ByRecursion.{All-more, All-get_or}
+use Rattle.std.proofs.lemmas.List.{take_all}
+use Rattle.digits.proofs.numbers.all_digits.Goals as goal
 
-pub returns-then-not-is-ascii-digit : need.returns-then-not-is-ascii-digit
-returns-then-not-is-ascii-digit c =
-    (λ e. search needs, λ h. let d = all-getD (In 48 57) (c .args .bytes .now) (c .loop-b .b-index) 0 (c .loop-b-test .taken) h in search needs)
+pub returns-then-not-is_ascii_digit : goal.returns-then-not-is_ascii_digit
+returns-then-not-is_ascii_digit c =
+    (λ e. search rules, λ h. let d = All-get_or (IsInRange 48 57) c.args.bytes.now c.loop-b.b-index 0 c.loop-b-test.true h in search rules)
 
-pub loop-b-again : need.loop-b-again
-loop-b-again c =
-    all-more (In 48 57) (c .args .bytes .now) (c .loop-b .b-index) 0 (c .loop-b-test .taken) (c .loop-b .inv) (search needs)
+pub loop-b-preserved : goal.loop-b-preserved
+loop-b-preserved c =
+    All-more (IsInRange 48 57) c.args.bytes.now c.loop-b.b-index 0 c.loop-b-test.true c.loop-b.invariant (search rules)
 
-pub returns : need.returns
+pub returns : goal.returns
 returns c =
-    (λ _. let P : List ℕ → Type 0 = All (In 48 57) in subst P (take-all (c .loop-b .b-index) (c .args .bytes .now) (omega arith)) (c .loop-b .inv), λ _. search needs)
+    (λ _. let P : List ℕ → Type 0 = AllByRecursion (IsInRange 48 57) in subst P (take_all c.loop-b.b-index c.args.bytes.now (omega arith)) c.loop-b.invariant, λ _. search rules)

@@ -1,25 +1,22 @@
-use mathlib.Core.Path.{sym, _∙_}
-use Prim.Native.Nat.{_<_, _≤_, min}
-use native.Mathlib.Omega.{arith}
-use lib.ListN.{length}
-use Rattle·fronts·proofs.Stepping.{covered-more, covered-all}
-use Rattle·fronts·proofs.covering.covers.Needs as need
+use Rattle.std.proofs.Common.{◌<◌, ◌≤◌, min, length, sym, ◌∙◌, arith}
+use Rattle.fronts.proofs.Stepping.{covered_more, covered_all}
+use Rattle.fronts.proofs.covering.covers.Goals as goal
 
-pub loop-i-again : need.loop-i-again
-loop-i-again g c =
-    let lt : c .loop-i .i < min (c .args .len) (length (c .args .rows .now)) = omega arith in
-    let step = covered-more (g .C·CostKind .kind) (c .args .cost) (c .args .rows .now) (c .args .len) (c .loop-i .i) (c .index-rows-i .result) lt in
-    let no-more = sym (c .if-at-most .ensures tt) in
-    sym (rw no-more at step) ∙ c .loop-i .inv
+pub loop-i-preserved : goal.loop-i-preserved
+loop-i-preserved g c =
+    let lt : c.loop-i.i < min c.args.len (length c.args.rows.now) = omega arith in
+    let step = covered_more g.C.CostKind.kind c.args.cost c.args.rows.now c.args.len c.loop-i.i c.index-rows-i.result lt in
+    let no_more = sym c.if-at_most.ensures in
+    sym (rw no_more at step) ∙ c.loop-i.invariant
 
-pub returns-then-at-most : need.returns-then-at-most
-returns-then-at-most g c =
-    let lt : c .loop-i .i < min (c .args .len) (length (c .args .rows .now)) = omega arith in
-    let step = covered-more (g .C·CostKind .kind) (c .args .cost) (c .args .rows .now) (c .args .len) (c .loop-i .i) (c .index-rows-i .result) lt in
-    let found = sym (c .if-at-most .ensures tt) in
-    sym (rw found at step) ∙ c .loop-i .inv
+pub returns-then-at_most : goal.returns-then-at_most
+returns-then-at_most g c =
+    let lt : c.loop-i.i < min c.args.len (length c.args.rows.now) = omega arith in
+    let step = covered_more g.C.CostKind.kind c.args.cost c.args.rows.now c.args.len c.loop-i.i c.index-rows-i.result lt in
+    let found = sym c.if-at_most.ensures in
+    sym (rw found at step) ∙ c.loop-i.invariant
 
-pub returns : need.returns
+pub returns : goal.returns
 returns g c =
-    let end : min (c .args .len) (length (c .args .rows .now)) ≤ c .loop-i .i = omega arith in
-    sym (covered-all (g .C·CostKind .kind) (c .args .cost) (c .args .rows .now) (c .args .len) (c .loop-i .i) end) ∙ c .loop-i .inv
+    let end : min c.args.len (length c.args.rows.now) ≤ c.loop-i.i = omega arith in
+    sym (covered_all g.C.CostKind.kind c.args.cost c.args.rows.now c.args.len c.loop-i.i end) ∙ c.loop-i.invariant

@@ -1,30 +1,26 @@
-use mathlib.Core.Path.{_≡_, refl, _∙_}
-use native.Mathlib.Omega.{arith}
-use denote.Ref.{now}
-use lib.ListN.{length}
-use borrow.Author.Needs.{needs}
-use Rattle·fronts·proofs.Taking.{taking-none, taking-more, taking-outgrown, taking-whole}
-use Rattle·fronts·proofs.whole.front_of.Needs as need
+use Rattle.std.proofs.Common.{◌≡◌, length, refl, ◌∙◌, arith, rules}
+use Rattle.fronts.proofs.Taking.{taking_none, taking_more, taking_outgrown, taking_whole}
+use Rattle.fronts.proofs.whole.front_of.Goals as goal
 
-pub loop-i-holds : need.loop-i-holds
-loop-i-holds g c = (refl, rw (c .new-list .ensures .len) (taking-none (g .C·CostKind .kind) (c .args .given .now) (now (c .new-list .result .rows))))
+pub loop-i-init : goal.loop-i-init
+loop-i-init g c = (refl, rw c.new-list.ensures.len (taking_none g.C.CostKind.kind c.args.given.now c.new-list.result.rows.now))
 
-pub loop-i-again : need.loop-i-again
-loop-i-again g c = (
-  c .add .ensures .same ∙ c .loop-i .inv .0,
-  taking-more (g .C·CostKind .kind) (c .args .given .now) (now (c .new-list .result .rows)) (now (c .loop-i .list .rows)) (now (c .add .last .self .rows)) (c .loop-i .list .len) (c .add .last .self .len) (c .loop-i .i)
-      (c .index-given-i .result) (c .add .result) (c .loop-i .inv .1) (c .loop-i-test .taken) (c .index-given-i .is) (c .add .ensures .holds) (c .add .ensures .len) (c .in-rest .not-NoRow),
+pub loop-i-preserved : goal.loop-i-preserved
+loop-i-preserved g c = (
+  c.add.ensures.same ∙ c.loop-i.invariant.0,
+  taking_more g.C.CostKind.kind c.args.given.now c.new-list.result.rows.now c.loop-i.list.rows.now c.add.new.self.rows.now c.loop-i.list.len c.add.new.self.len c.loop-i.i
+      c.index-given-i.result c.add.result c.loop-i.invariant.1 c.loop-i-test.true c.index-given-i.is c.add.ensures.holds c.add.ensures.len c.in_default.not-NoRow,
 )
 
-pub returns-in-NoRow : need.returns-in-NoRow
+pub returns-in-NoRow : goal.returns-in-NoRow
 returns-in-NoRow g c = (
-  c .loop-i .i,
-  taking-outgrown (g .C·CostKind .kind) (c .args .given .now) (g .C·CostKind·met .laws) (now (c .new-list .result .rows)) (now (c .loop-i .list .rows)) (now (c .add .last .self .rows)) _ (c .loop-i .list .len) (c .loop-i .i)
-      (c .index-given-i .result) (c .loop-i .inv .1) (c .loop-i-test .taken) (c .index-given-i .is) (c .in-NoRow .ensures tt .holds) (search needs),
+  c.loop-i.i,
+  taking_outgrown g.C.CostKind.kind c.args.given.now g.met.C.CostKind.laws c.new-list.result.rows.now c.loop-i.list.rows.now c.add.new.self.rows.now _ c.loop-i.list.len c.loop-i.i
+      c.index-given-i.result c.loop-i.invariant.1 c.loop-i-test.true c.index-given-i.is c.in-NoRow.ensures.holds (search rules),
 )
 
-pub returns : need.returns
+pub returns : goal.returns
 returns g c =
-    let done : c .loop-i .i ≡ length (c .args .given .now) = omega arith in
-    taking-whole (g .C·CostKind .kind) (c .args .given .now) (g .C·CostKind·met .laws) (c .args .rows .now) (now (c .new-list .result .rows)) (now (c .loop-i .list .rows)) _ (c .loop-i .list .len) (c .used .result) (c .loop-i .i)
-    (c .loop-i .inv .1) done (c .used .ensures) (c .new-list .ensures .rows) (search needs)
+    let done : c.loop-i.i ≡ length c.args.given.now = omega arith in
+    taking_whole g.C.CostKind.kind c.args.given.now g.met.C.CostKind.laws c.args.rows.now c.new-list.result.rows.now c.loop-i.list.rows.now _ c.loop-i.list.len c.used.result c.loop-i.i
+    c.loop-i.invariant.1 done c.used.ensures c.new-list.ensures.rows (search rules)

@@ -1,25 +1,23 @@
-use mathlib.Core.Path.{sym}
-use native.Mathlib.Omega.{arith}
-use lib.ListN.{length}
-use Rattle·carts.specs.Carts.{cart-of}
-use Rattle·std.proofs.shelf.Lists.{length-map}
-use Rattle·labels·specs.Queries.{asked}
-use Rattle·labels·proofs.Answering.{admitted, drawn-charted, laid-out}
-use Rattle·labels·proofs.calls.lay_out.Needs as need
+use Rattle.std.proofs.Common.{length, sym, arith}
+use Rattle.carts.specs.Carts.{cart_of}
+use Rattle.std.proofs.lemmas.List.{length-map}
+use Rattle.labels.specs.Queries.{asked}
+use Rattle.labels.proofs.Answering.{admitted, drawn_charted, laid_out}
+use Rattle.labels.proofs.calls.lay_out.Goals as goal
 
-pub fill-labels-requires : need.fill-labels-requires
-fill-labels-requires g c κs =
-    let a = asked (g .F·Floor .moves) (g .C·CostKind .kind) (g .B·Constrains .constraint) (c .args .query .now) in
-    let fit = admitted a (length (c .args .rows .now)) (sym (c .in-rest .ensures tt)) in
+pub fill_labels-requires : goal.fill_labels-requires
+fill_labels-requires g c =
+    let a = asked g.F.Floor.moves g.C.CostKind.kind g.B.Constrains.constraint c.args.query.now in
+    let fit = admitted a (length c.args.rows.now) (sym c.in_default.ensures) in
     record {
-      few = fit .few;
-      known = omega (arith, fit .known, length-map (c .args .query .now .carts .now) cart-of);
-      ticks = fit .ticks;
-      charted = drawn-charted a (c .args .chart .now) (c .draw .last .chart) (c .pre .blank) (c .draw .ensures);
-      table = c .pre .table;
+      few = fit.few;
+      known = omega (arith, fit.known, length-map c.args.query.now.carts.now cart_of);
+      ticks = fit.ticks;
+      charted = drawn_charted a c.args.chart.now c.draw.new.chart c.requires.blank c.draw.ensures;
+      table = c.requires.table;
     }
 
-pub returns-in-Some-fill-labels : need.returns-in-Some-fill-labels
-returns-in-Some-fill-labels g c =
-    let a = asked (g .F·Floor .moves) (g .C·CostKind .kind) (g .B·Constrains .constraint) (c .args .query .now) in
-    laid-out a (c .draw .last .chart) (c .args .rows .now) (c .fill-labels .last .rows) (c .fill-labels .last .starts) (c .in-Some-fill-labels .n) (sym (c .in-rest .ensures tt)) (drawn-charted a (c .args .chart .now) (c .draw .last .chart) (c .pre .blank) (c .draw .ensures)) (c .fill-labels .kept .rows) (c .in-Some-fill-labels .ensures tt)
+pub returns-in-Some-fill_labels : goal.returns-in-Some-fill_labels
+returns-in-Some-fill_labels g c =
+    let a = asked g.F.Floor.moves g.C.CostKind.kind g.B.Constrains.constraint c.args.query.now in
+    laid_out a c.draw.new.chart c.args.rows.now c.fill_labels.new.rows c.fill_labels.new.starts c.in-Some-fill_labels.n (sym c.in_default.ensures) (drawn_charted a c.args.chart.now c.draw.new.chart c.requires.blank c.draw.ensures) c.fill_labels.auto.rows c.in-Some-fill_labels.ensures

@@ -1,39 +1,36 @@
-use mathlib.Core.Path.{_≡_, ap, subst, _∙_}
-use mathlib.Core.Bool.{true, not}
-use native.Mathlib.Omega.{arith}
-use Prim.Native.Nat.{_<_}
-use Rattle·labels·specs.Queries.{asked, may-be-at}
-use Rattle·labels·proofs.Tabling.{charted-at, shut-cell, grown-none}
-use Rattle·labels·proofs.cells.fill_cell.Needs as need
+use Rattle.std.proofs.Common.{◌≡◌, ◌<◌, true, not, ap, ◌∙◌, subst, arith}
+use Rattle.labels.specs.Queries.{asked, may_be_at}
+use Rattle.labels.proofs.Tabling.{charted_at, shut_cell, grown_none}
+use Rattle.labels.proofs.cells.fill_cell.Goals as goal
 
-pub returns-then-chart-layer : need.returns-then-chart-layer
+pub returns-then-chart-layer : goal.returns-then-chart-layer
 returns-then-chart-layer g c =
-    let a = asked (g .F·Floor .moves) (g .C·CostKind .kind) (g .B·Constrains .constraint) (c .args .query .now) in
-    let layer = c .args .layer in
-    let may = charted-at a (c .args .chart .now) (c .pre .charted) (layer .tick) (c .args .place) (layer .base) (c .pre .timely) (c .pre .place) (c .pre .laid .base) in
-    grown-none (c .args .rows .now) (c .args .n) _ (c .pre .held .within) (shut-cell a (layer .tick) (c .args .place) (c .pre .place) (may ∙ ap not (c .if-chart-layer .taken)))
+    let a = asked g.F.Floor.moves g.C.CostKind.kind g.B.Constrains.constraint c.args.query.now in
+    let layer = c.args.layer in
+    let may = charted_at a c.args.chart.now c.requires.charted layer.tick c.args.place layer.base c.requires.timely c.requires.place c.requires.laid.base in
+    grown_none c.args.rows.now c.args.n _ c.requires.held.within (shut_cell a layer.tick c.args.place c.requires.place (may ∙ ap not c.if-chart-layer.true))
 
-pub first-cell-requires : need.first-cell-requires
-first-cell-requires g c κs =
-    let a = asked (g .F·Floor .moves) (g .C·CostKind .kind) (g .B·Constrains .constraint) (c .args .query .now) in
-    let layer = c .args .layer in
-    let may = charted-at a (c .args .chart .now) (c .pre .charted) (layer .tick) (c .args .place) (layer .base) (c .pre .timely) (c .pre .place) (c .pre .laid .base) in
-    record { within = c .pre .held .within; few = c .pre .few; known = c .pre .known; place = c .pre .place; allowed = subst (λ t. may-be-at a (c .args .place) t ≡ true) (c .if-layer-eq0 .taken) (may ∙ ap not (c .if-chart-layer .left)) }
+pub first_cell-requires : goal.first_cell-requires
+first_cell-requires g c =
+    let a = asked g.F.Floor.moves g.C.CostKind.kind g.B.Constrains.constraint c.args.query.now in
+    let layer = c.args.layer in
+    let may = charted_at a c.args.chart.now c.requires.charted layer.tick c.args.place layer.base c.requires.timely c.requires.place c.requires.laid.base in
+    record { within = c.requires.held.within; few = c.requires.few; known = c.requires.known; place = c.requires.place; allowed = subst (λ t. may_be_at a c.args.place t ≡ true) c.if-layer-eq0.true (may ∙ ap not c.if-chart-layer.false) }
 
-pub later-cell-requires : need.later-cell-requires
-later-cell-requires g c κs =
-    let a = asked (g .F·Floor .moves) (g .C·CostKind .kind) (g .B·Constrains .constraint) (c .args .query .now) in
-    let layer = c .args .layer in
-    let may = charted-at a (c .args .chart .now) (c .pre .charted) (layer .tick) (c .args .place) (layer .base) (c .pre .timely) (c .pre .place) (c .pre .laid .base) in
-    let later : 0 < c .args .layer .tick = omega (arith, c .if-layer-eq0 .left) in
+pub later_cell-requires : goal.later_cell-requires
+later_cell-requires g c =
+    let a = asked g.F.Floor.moves g.C.CostKind.kind g.B.Constrains.constraint c.args.query.now in
+    let layer = c.args.layer in
+    let may = charted_at a c.args.chart.now c.requires.charted layer.tick c.args.place layer.base c.requires.timely c.requires.place c.requires.laid.base in
+    let later : 0 < c.args.layer.tick = omega (arith, c.if-layer-eq0.false) in
     record {
       later = later;
-      timely = c .pre .timely;
-      few = c .pre .few;
-      place = c .pre .place;
-      allowed = may ∙ ap not (c .if-chart-layer .left);
-      charted = c .pre .charted;
-      laid = c .pre .laid;
-      table = c .pre .table;
-      held = c .pre .held;
+      timely = c.requires.timely;
+      few = c.requires.few;
+      place = c.requires.place;
+      allowed = may ∙ ap not c.if-chart-layer.false;
+      charted = c.requires.charted;
+      laid = c.requires.laid;
+      table = c.requires.table;
+      held = c.requires.held;
     }

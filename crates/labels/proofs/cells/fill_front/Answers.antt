@@ -1,20 +1,20 @@
-use Rattle·rules.specs.Fronts.{front-of}
-use Rattle·labels·specs.Queries.{asked, reaching}
-use Rattle·labels·proofs.Filling.{ready-again, grown-again}
-use Rattle·labels·proofs.cells.fill_front.Needs as need
+use Rattle.rules.specs.Fronts.{front_of}
+use Rattle.labels.specs.Queries.{asked, reaching}
+use Rattle.labels.proofs.Filling.{ready_again, grown_again}
+use Rattle.labels.proofs.cells.fill_front.Goals as goal
 
-pub select-cell-requires : need.select-cell-requires
-select-cell-requires g c κs =
-    let a = asked (g .F·Floor .moves) (g .C·CostKind .kind) (g .B·Constrains .constraint) (c .args .query .now) in
+pub select_cell-requires : goal.select_cell-requires
+select_cell-requires g c =
+    let a = asked g.F.Floor.moves g.C.CostKind.kind g.B.Constrains.constraint c.args.query.now in
     record {
-      ready = ready-again a (c .args .cell) (c .args .rows .now) (c .gather-cell .last .rows) (c .args .starts .now) (c .gather-cell .kept .rows) (c .in-rest .ensures tt) (c .pre .ready);
-      place = c .pre .place;
-      charted = c .pre .charted;
+      ready = ready_again a c.args.cell c.args.rows.now c.gather_cell.new.rows c.args.starts.now c.gather_cell.auto.rows c.in_default.ensures c.requires.ready;
+      place = c.requires.place;
+      charted = c.requires.charted;
     }
 
-pub returns : need.returns
+pub returns : goal.returns
 returns g c =
-    let k = g .C·CostKind .kind in
-    let a = asked (g .F·Floor .moves) k (g .B·Constrains .constraint) (c .args .query .now) in
-    let cell = c .args .cell in
-    grown-again (c .args .rows .now) (c .gather-cell .last .rows) (c .select-cell .last .rows) (cell .start) (front-of k (reaching a (cell .tick) (cell .place))) (c .select-cell .result) (c .gather-cell .kept .rows) (c .in-rest .ensures tt) (c .select-cell .ensures)
+    let k = g.C.CostKind.kind in
+    let a = asked g.F.Floor.moves k g.B.Constrains.constraint c.args.query.now in
+    let cell = c.args.cell in
+    grown_again c.args.rows.now c.gather_cell.new.rows c.select_cell.new.rows cell.start (front_of k (reaching a cell.tick cell.place)) c.select_cell.result c.gather_cell.auto.rows c.in_default.ensures c.select_cell.ensures

@@ -1,14 +1,14 @@
-use mathlib.Core.Path.{refl, sym}
-use Rattle·labels·specs.Queries.{asked}
-use Rattle·labels·proofs.Tabling.{goal-at}
-use Rattle·labels·proofs.landings.landing_of.Needs as need
+use Rattle.std.proofs.Common.{sym, refl}
+use Rattle.labels.specs.Queries.{asked}
+use Rattle.labels.proofs.Tabling.{goal_at}
+use Rattle.labels.proofs.landings.landing_of.Goals as goal
 
-pub returns : need.returns
+pub returns : goal.returns
 returns g c =
-    let a = asked (g .F·Floor .moves) (g .C·CostKind .kind) (g .B·Constrains .constraint) (c .args .query .now) in
+    let a = asked g.F.Floor.moves g.C.CostKind.kind g.B.Constrains.constraint c.args.query.now in
     record {
-      first = c .stands-from .ensures;
+      first = c.stands_from.ensures;
       horizon = refl;
-      goal = sym (goal-at (c .args .query .now .carts .now) (a .cart) (record { start = 0; goal = 0 }) (c .pre .known));
-      places = c .places .ensures;
+      goal = sym (goal_at c.args.query.now.carts.now a.cart (record { start = 0; goal = 0 }) c.requires.known);
+      places = c.places.ensures;
     }

@@ -1,12 +1,12 @@
-use mathlib.Core.Path.{sym, _∙_}
-use Rattle·labels·proofs.Offering.{dominated-yes, dominated-no, dominated-end}
-use Rattle·labels·proofs.offers.dominates.Needs as need
+use Rattle.std.proofs.Common.{sym, ◌∙◌}
+use Rattle.labels.proofs.Offering.{dominated_yes, dominated_no, dominated_end}
+use Rattle.labels.proofs.offers.dominates.Goals as goal
 
-pub loop-i-again : need.loop-i-again
-loop-i-again g c = sym (dominated-no (g .C·CostKind .kind) (c .args .rows .now) (c .args .to) (c .loop-i .i) (c .index-rows-i .result) (c .args .c) (c .loop-i-test .taken) (c .pre .within) (c .if-undercuts .ensures tt)) ∙ c .loop-i .inv
+pub loop-i-preserved : goal.loop-i-preserved
+loop-i-preserved g c = sym (dominated_no g.C.CostKind.kind c.args.rows.now c.args.to c.loop-i.i c.index-rows-i.result c.args.c c.loop-i-test.true c.requires.within c.if-undercuts.ensures) ∙ c.loop-i.invariant
 
-pub returns-then-undercuts : need.returns-then-undercuts
-returns-then-undercuts g c = sym (dominated-yes (g .C·CostKind .kind) (c .args .rows .now) (c .args .to) (c .loop-i .i) (c .index-rows-i .result) (c .args .c) (c .loop-i-test .taken) (c .pre .within) (c .if-undercuts .ensures tt)) ∙ c .loop-i .inv
+pub returns-then-undercuts : goal.returns-then-undercuts
+returns-then-undercuts g c = sym (dominated_yes g.C.CostKind.kind c.args.rows.now c.args.to c.loop-i.i c.index-rows-i.result c.args.c c.loop-i-test.true c.requires.within c.if-undercuts.ensures) ∙ c.loop-i.invariant
 
-pub returns : need.returns
-returns g c = sym (dominated-end (g .C·CostKind .kind) (c .args .rows .now) (c .args .to) (c .loop-i .i) (c .args .c) (c .loop-i-test .left) (c .pre .within)) ∙ c .loop-i .inv
+pub returns : goal.returns
+returns g c = sym (dominated_end g.C.CostKind.kind c.args.rows.now c.args.to c.loop-i.i c.args.c c.loop-i-test.false c.requires.within) ∙ c.loop-i.invariant

@@ -1,36 +1,33 @@
-use mathlib.Core.Path.{sym, ap, _∙_}
-use native.Mathlib.Omega.{arith}
-use Prim.Native.Nat.{ℕ, _≤_, _<_}
-use lib.ListN.{take, drop}
-use Rattle·labels·specs.Landings.{row-costs, dominated-by}
-use Rattle·labels·proofs.Offering.{tick-yes, tick-no, tick-end}
-use Rattle·labels·proofs.offers.is_dominated.Needs as need
+use Rattle.std.proofs.Common.{ℕ, ◌<◌, ◌≤◌, take, drop, sym, ap, ◌∙◌, arith}
+use Rattle.labels.specs.Landings.{row_costs, dominated_by}
+use Rattle.labels.proofs.Offering.{tick_yes, tick_no, tick_end}
+use Rattle.labels.proofs.offers.is_dominated.Goals as goal
 
-pub run-at-from-requires : need.run-at-from-requires
-run-at-from-requires g c κs = c .pre .table (c .loop-tick .tick) (omega (arith, c .loop-tick-test .taken))
+pub run_at-from-requires : goal.run_at-from-requires
+run_at-from-requires g c = c.requires.table c.loop-tick.tick (omega (arith, c.loop-tick-test.true))
 
-pub dominates-requires : need.dominates-requires
-dominates-requires g c κs =
-    let le : c .loop-tick .tick ≤ c .args .landing .horizon = omega (arith, c .loop-tick-test .taken) in
-    let lo = ap (λ (x : ℕ × ℕ). x .0) (c .run-at-from .ensures) in
-    let hi = ap (λ (x : ℕ × ℕ). x .1) (c .run-at-from .ensures) in
-    record { run = omega (arith, lo, hi, c .pre .up (c .loop-tick .tick) le); within = omega (arith, hi, c .pre .held (c .loop-tick .tick) le, c .pre .within) }
+pub dominates-requires : goal.dominates-requires
+dominates-requires g c =
+    let le : c.loop-tick.tick ≤ c.args.landing.horizon = omega (arith, c.loop-tick-test.true) in
+    let lo = ap (λ (x : ℕ × ℕ). x.0) c.run_at-from.ensures in
+    let hi = ap (λ (x : ℕ × ℕ). x.1) c.run_at-from.ensures in
+    record { run = omega (arith, lo, hi, c.requires.up c.loop-tick.tick le); within = omega (arith, hi, c.requires.held c.loop-tick.tick le, c.requires.within) }
 
-pub returns-then-dominates : need.returns-then-dominates
+pub returns-then-dominates : goal.returns-then-dominates
 returns-then-dominates g c =
-    let le : c .loop-tick .tick ≤ c .args .landing .horizon = omega (arith, c .loop-tick-test .taken) in
-    let k = g .C·CostKind .kind in
-    let found = c .if-dominates .ensures tt ∙ ap (λ (x : ℕ × ℕ). dominated-by k (row-costs (drop (x .0) (take (x .1) (c .args .rows .now)))) (c .args .c)) (c .run-at-from .ensures) in
-    sym (tick-yes k (c .args .rows .now) (c .args .starts .now) (c .args .landing) (c .args .end) (c .loop-tick .tick) (c .pre) (c .args .c) le found) ∙ c .loop-tick .inv
+    let le : c.loop-tick.tick ≤ c.args.landing.horizon = omega (arith, c.loop-tick-test.true) in
+    let k = g.C.CostKind.kind in
+    let found = c.if-dominates.ensures ∙ ap (λ (x : ℕ × ℕ). dominated_by k (row_costs (drop x.0 (take x.1 c.args.rows.now))) c.args.c) c.run_at-from.ensures in
+    sym (tick_yes k c.args.rows.now c.args.starts.now c.args.landing c.args.end c.loop-tick.tick c.requires c.args.c le found) ∙ c.loop-tick.invariant
 
-pub loop-tick-again : need.loop-tick-again
-loop-tick-again g c =
-    let le : c .loop-tick .tick ≤ c .args .landing .horizon = omega (arith, c .loop-tick-test .taken) in
-    let k = g .C·CostKind .kind in
-    let none = c .if-dominates .ensures tt ∙ ap (λ (x : ℕ × ℕ). dominated-by k (row-costs (drop (x .0) (take (x .1) (c .args .rows .now)))) (c .args .c)) (c .run-at-from .ensures) in
-    sym (tick-no k (c .args .rows .now) (c .args .starts .now) (c .args .landing) (c .args .end) (c .loop-tick .tick) (c .pre) (c .args .c) le none) ∙ c .loop-tick .inv
+pub loop-tick-preserved : goal.loop-tick-preserved
+loop-tick-preserved g c =
+    let le : c.loop-tick.tick ≤ c.args.landing.horizon = omega (arith, c.loop-tick-test.true) in
+    let k = g.C.CostKind.kind in
+    let none = c.if-dominates.ensures ∙ ap (λ (x : ℕ × ℕ). dominated_by k (row_costs (drop x.0 (take x.1 c.args.rows.now))) c.args.c) c.run_at-from.ensures in
+    sym (tick_no k c.args.rows.now c.args.starts.now c.args.landing c.args.end c.loop-tick.tick c.requires c.args.c le none) ∙ c.loop-tick.invariant
 
-pub returns : need.returns
+pub returns : goal.returns
 returns g c =
-    let over : c .args .landing .horizon < c .loop-tick .tick = omega (arith, c .loop-tick-test .left) in
-    sym (tick-end (g .C·CostKind .kind) (c .args .rows .now) (c .args .starts .now) (c .args .landing) (c .args .end) (c .loop-tick .tick) (c .pre) (c .args .c) over) ∙ c .loop-tick .inv
+    let over : c.args.landing.horizon < c.loop-tick.tick = omega (arith, c.loop-tick-test.false) in
+    sym (tick_end g.C.CostKind.kind c.args.rows.now c.args.starts.now c.args.landing c.args.end c.loop-tick.tick c.requires c.args.c over) ∙ c.loop-tick.invariant

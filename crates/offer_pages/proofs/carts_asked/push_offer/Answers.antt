@@ -1,41 +1,36 @@
-use mathlib.Core.Path.{_≡_, ap}
-use Prim.Native.Nat.{ℕ}
-use native.Mathlib.Omega.{arith}
-use Rattle·std.specs.Of.Vec.{vec-items}
-use Rattle·std.specs.shelf.Maps.{nth}
-use Rattle·std.specs.declared.option.Option.the-variants.{Some, None}
-use Rattle·std.specs.declared.result.Result.the-variants.{Ok}
-use Rattle·std.specs.Options.{mapped}
-use Rattle·std.proofs.shelf.Results.{made-weaker}
-use Rattle·carts.specs.Carts.{constraint-of}
-use Rattle·labels.specs.Queries.{asked, offers-of}
-use Rattle·offer_pages·proofs.Adding.{answered, walk-written, some-offer, offer-added}
-use Rattle·offer_pages·proofs.carts_asked.push_offer.Needs as need
+use Rattle.std.proofs.Common.{◌≡◌, ℕ, Some, None, vec_items, arith}
+use Rattle.std.specs.List.{slice_get}
+use Rattle.std.specs.Option.{option_map}
+use Rattle.std.proofs.lemmas.Result.{IfOk-weaker}
+use Rattle.carts.specs.Carts.{constraint_of}
+use Rattle.labels.specs.Queries.{asked, offers_of}
+use Rattle.offer_pages.proofs.Adding.{answered, walk_written, some_offer, offer_added}
+use Rattle.offer_pages.proofs.carts_asked.push_offer.Goals as goal
 
-pub unreachable-requires : need.unreachable-requires
-unreachable-requires g c κs =
-    let a = asked (g .F·Floor .moves) (g .C·CostKind .kind) constraint-of (c .args .query .now) in
-    let e = answered _ (nth (offers-of a) (c .args .number)) _ (c .pre .free) (c .in-rest .ensures tt .answer) in
-    let z : _≡_ {A = ℕ} 0 1 = cc e in
+pub unreachable-requires : goal.unreachable-requires
+unreachable-requires g c =
+    let a = asked g.F.Floor.moves g.C.CostKind.kind constraint_of c.args.query.now in
+    let e = answered _ (slice_get (offers_of a) c.args.number) _ c.requires.free c.in_default.ensures.answer in
+    let z : ◌≡◌ {A = ℕ} 0 1 = cc e in
     omega arith
 
-pub unreachable-requires-in-rest-offer : need.unreachable-requires-in-rest-offer
-unreachable-requires-in-rest-offer g c κs =
-    let a = asked (g .F·Floor .moves) (g .C·CostKind .kind) constraint-of (c .args .query .now) in
-    let o = nth (offers-of a) (c .args .number) in
-    let e = answered _ o _ (c .pre .free) (c .in-Ok .ensures tt .answer) in
-    let was = c .in-rest-offer .is in
-    let gone : mapped (λ l. l .cost) o ≡ None = cc in
-    some-offer (offers-of a) (c .args .number) (c .pre .known) gone
+pub unreachable-requires-in_default-offer : goal.unreachable-requires-in_default-offer
+unreachable-requires-in_default-offer g c =
+    let a = asked g.F.Floor.moves g.C.CostKind.kind constraint_of c.args.query.now in
+    let o = slice_get (offers_of a) c.args.number in
+    let e = answered _ o _ c.requires.free c.in-Ok.ensures.answer in
+    let was = c.in_default-offer.is in
+    let gone : option_map (λ l. l.cost) o ≡ None = cc in
+    some_offer (offers_of a) c.args.number c.requires.known gone
 
-pub returns : need.returns
+pub returns : goal.returns
 returns g c =
-    let a = asked (g .F·Floor .moves) (g .C·CostKind .kind) constraint-of (c .args .query .now) in
-    let o = nth (offers-of a) (c .args .number) in
-    let told = answered _ o _ (c .pre .free) (c .in-Ok .ensures tt .answer) in
-    let was = c .in-Some .is in
-    let same : Some (c .in-Some .cost) ≡ mapped (λ l. l .cost) o = cc in
-    made-weaker (c .push-places .result) _ _
-    (λ u h. offer-added (g .C·Text .text) o (c .in-Some .cost) (c .args .places .now) (vec-items (c .args .out .now)) (vec-items (c .push-cost .last .out)) _ (c .take-offer .last .places) same
-    (walk-written _ o (c .take-offer .last .places) (c .args .places .now) (c .pre .free) (c .in-Ok .ensures tt .written)) (c .in-Continue-push-cost .ensures tt) h)
-    (c .push-places .ensures)
+    let a = asked g.F.Floor.moves g.C.CostKind.kind constraint_of c.args.query.now in
+    let o = slice_get (offers_of a) c.args.number in
+    let told = answered _ o _ c.requires.free c.in-Ok.ensures.answer in
+    let was = c.in-Some.is in
+    let same : Some c.in-Some.cost ≡ option_map (λ l. l.cost) o = cc in
+    IfOk-weaker c.push_places.result _ _
+    (λ u h. offer_added g.C.Text.text o c.in-Some.cost c.args.places.now (vec_items c.args.out.now) (vec_items c.push_cost.new.out) _ c.take_offer.new.places same
+    (walk_written _ o c.take_offer.new.places c.args.places.now c.requires.free c.in-Ok.ensures.written) c.in_ok-push_cost.ensures h)
+    c.push_places.ensures

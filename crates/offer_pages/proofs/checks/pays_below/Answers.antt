@@ -1,30 +1,26 @@
-use mathlib.Core.Path.{sym}
-use mathlib.Core.List.{[]}
-use Prim.Native.Nat.{_<_}
-use native.Mathlib.Omega.{arith}
-use lib.ListN.{getD}
-use Rattle·floors.specs.Floors.{move-of}
-use Rattle·rules.specs.Instances.{Move}
-use Rattle·rules.proofs.Members.{at-past}
-use Rattle·offer_pages·proofs.Checking.{decides-yes, decides-no, all-reached, found-fails, found-more}
-use Rattle·offer_pages·proofs.checks.pays_below.Needs as need
+use Rattle.std.proofs.Common.{◌<◌, [], get_or, sym, arith}
+use Rattle.floors.specs.Floors.{move_of}
+use Rattle.rules.specs.Instances.{Move}
+use Rattle.rules.proofs.Members.{at_past}
+use Rattle.offer_pages.proofs.Checking.{decides_yes, decides_no, all_reached, found_fails, found_more}
+use Rattle.offer_pages.proofs.checks.pays_below.Goals as goal
 
-pub unreachable-requires : need.unreachable-requires
-unreachable-requires g c κs =
-    let ms = getD (g .F·Floor .moves (c .args .floor .now)) (c .args .place) [] in
-    omega (arith, at-past ms (c .loop-number .number) (sym (c .in-rest .ensures tt)), c .move-count-number-end .ensures, c .loop-number-test .taken)
+pub unreachable-requires : goal.unreachable-requires
+unreachable-requires g c =
+    let ms = get_or (g.F.Floor.moves c.args.floor.now) c.args.place [] in
+    omega (arith, at_past ms c.loop-number.number (sym c.in_default.ensures), c.move_count-number-end.ensures, c.loop-number-test.true)
 
-pub returns-then-step-lines : need.returns-then-step-lines
+pub returns-then-step-lines : goal.returns-then-step-lines
 returns-then-step-lines g c =
-    let ms = getD (g .F·Floor .moves (c .args .floor .now)) (c .args .place) [] in
-    decides-no (found-fails (λ (m : Move). m .line < c .args .lines) ms (c .loop-number .number) (move-of (c .in-Some .step)) (sym (c .in-Some .ensures tt)) (λ p. omega (arith, p, c .if-step-lines .taken)))
+    let ms = get_or (g.F.Floor.moves c.args.floor.now) c.args.place [] in
+    decides_no (found_fails (λ (m : Move). m.line < c.args.lines) ms c.loop-number.number (move_of c.in-Some.step) (sym c.in-Some.ensures) (λ p. omega (arith, p, c.if-step-lines.true)))
 
-pub loop-number-again : need.loop-number-again
-loop-number-again g c =
-    let ms = getD (g .F·Floor .moves (c .args .floor .now)) (c .args .place) [] in
-    found-more (λ (m : Move). m .line < c .args .lines) ms (c .loop-number .number) (move-of (c .in-Some .step)) (sym (c .in-Some .ensures tt)) (omega (arith, c .if-step-lines .left)) (c .loop-number .inv)
+pub loop-number-preserved : goal.loop-number-preserved
+loop-number-preserved g c =
+    let ms = get_or (g.F.Floor.moves c.args.floor.now) c.args.place [] in
+    found_more (λ (m : Move). m.line < c.args.lines) ms c.loop-number.number (move_of c.in-Some.step) (sym c.in-Some.ensures) (omega (arith, c.if-step-lines.false)) c.loop-number.invariant
 
-pub returns : need.returns
+pub returns : goal.returns
 returns g c =
-    let ms = getD (g .F·Floor .moves (c .args .floor .now)) (c .args .place) [] in
-    decides-yes (all-reached (λ (m : Move). m .line < c .args .lines) ms (c .loop-number .number) (omega (arith, c .move-count-number-end .ensures, c .loop-number-test .left)) (c .loop-number .inv))
+    let ms = get_or (g.F.Floor.moves c.args.floor.now) c.args.place [] in
+    decides_yes (all_reached (λ (m : Move). m.line < c.args.lines) ms c.loop-number.number (omega (arith, c.move_count-number-end.ensures, c.loop-number-test.false)) c.loop-number.invariant)

@@ -1,11 +1,10 @@
-use lib.Chars.{codes}
-use Rattle·std.specs.Of.Vec.{vec-items}
-use Rattle·sites.specs.Records.{numbers-text}
-use Rattle·offer_pages·proofs.Adding.{three-parts}
-use Rattle·offer_pages·proofs.lines.push_places.Needs as need
+use Rattle.std.proofs.Common.{vec_items, codes}
+use Rattle.sites.specs.Records.{numbers_text}
+use Rattle.offer_pages.proofs.Adding.{three_parts}
+use Rattle.offer_pages.proofs.lines.push_places.Goals as goal
 
-pub returns : need.returns
+pub returns : goal.returns
 returns c =
-    three-parts (vec-items (c .args .out .now)) (codes "QP") (numbers-text (c .args .places .now)) (codes "\n")
-    (vec-items (c .extend-from-slice .last .self)) (vec-items (c .push-numbers .last .out)) (vec-items (c .push .last .self))
-    (c .in-Continue-extend-from-slice .ensures tt .items) (c .in-Continue-push-numbers .ensures tt) (c .in-Continue-push .ensures tt .items)
+    three_parts (vec_items c.args.out.now) (codes "QP") (numbers_text c.args.places.now) (codes "\n")
+    (vec_items c.extend_from_slice.new.self) (vec_items c.push_numbers.new.out) (vec_items c.push.new.self)
+    c.in_ok-extend_from_slice.ensures.items c.in_ok-push_numbers.ensures c.in_ok-push.ensures.items

@@ -1,34 +1,32 @@
-use mathlib.Core.Path.{refl, _∙_}
-use native.Mathlib.Omega.{arith}
-use lib.ListN.{length}
-use Rattle·std.proofs.shelf.Lists.{length-map}
-use Rattle·std.proofs.shelf.Tests.{false≢true}
-use Rattle·carts.specs.Carts.{cart-of}
-use Rattle·offer_pages·proofs.page.page_of.Needs as need
+use Rattle.std.proofs.Common.{refl, ◌∙◌, arith}
+use Rattle.std.proofs.lemmas.List.{length-map}
+use Rattle.std.proofs.lemmas.Bool.{false≢true}
+use Rattle.carts.specs.Carts.{cart_of}
+use Rattle.offer_pages.proofs.page.page_of.Goals as goal
 
-pub returns-then-site-lt1 : need.returns-then-site-lt1
-returns-then-site-lt1 g c = λ h. omega (arith, h, c .if-site-lt1 .taken, length-map (c .args .site .now .carts .now) cart-of)
+pub returns-then-site-lt1 : goal.returns-then-site-lt1
+returns-then-site-lt1 g c = λ h. omega (arith, h, c.if-site-lt1.true, length-map c.args.site.now.carts.now cart_of)
 
-pub returns-then-not-on-floor : need.returns-then-not-on-floor
-returns-then-not-on-floor g c =
-    (omega (arith, c .if-site-lt1 .left, length-map (c .args .site .now .carts .now) cart-of), λ h. false≢true (c .if-not-on-floor .ensures tt .1 h))
+pub returns-then-not-on_floor : goal.returns-then-not-on_floor
+returns-then-not-on_floor g c =
+    (omega (arith, c.if-site-lt1.false, length-map c.args.site.now.carts.now cart_of), λ h. false≢true (c.if-not-on_floor.ensures.1 h))
 
-pub returns-then-not-lines-there : need.returns-then-not-lines-there
-returns-then-not-lines-there g c =
-    (omega (arith, c .if-site-lt1 .left, length-map (c .args .site .now .carts .now) cart-of), c .if-not-on-floor .ensures tt .0 refl, λ h. false≢true (c .if-not-lines-there .ensures tt .1 h))
+pub returns-then-not-lines_there : goal.returns-then-not-lines_there
+returns-then-not-lines_there g c =
+    (omega (arith, c.if-site-lt1.false, length-map c.args.site.now.carts.now cart_of), c.if-not-on_floor.ensures.0 refl, λ h. false≢true (c.if-not-lines_there.ensures.1 h))
 
-pub write-page-requires : need.write-page-requires
-write-page-requires g c κs =
+pub write_page-requires : goal.write_page-requires
+write_page-requires g c =
     record {
       ready = record {
-        ticks = c .pre .ticks;
-        many = c .as-mut-slice .ensures .len ∙ c .in-Continue-rows .ensures tt;
-        long = omega (arith, c .as-mut-slice-2 .ensures .len, c .in-Continue-places .ensures tt .made .1);
+        ticks = c.requires.ticks;
+        many = c.as_mut_slice.ensures.len ∙ c.in_ok-rows.ensures;
+        long = omega (arith, c.as_mut_slice-2.ensures.len, c.in_ok-places.ensures.len);
         checked = record {
-          some-cart = omega (arith, c .if-site-lt1 .left, length-map (c .args .site .now .carts .now) cart-of);
-          on-floor = c .if-not-on-floor .ensures tt .0 refl;
-          lines = c .if-not-lines-there .ensures tt .0 refl;
+          some_cart = omega (arith, c.if-site-lt1.false, length-map c.args.site.now.carts.now cart_of);
+          on_floor = c.if-not-on_floor.ensures.0 refl;
+          lines = c.if-not-lines_there.ensures.0 refl;
         };
       };
-      few = c .pre .few;
+      few = c.requires.few;
     }

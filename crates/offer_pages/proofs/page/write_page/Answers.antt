@@ -1,56 +1,49 @@
-use mathlib.Core.Path.{_≡_, ap, _∙_}
-use mathlib.Core.List.{[]}
-use Prim.Native.Nat.{_≤_}
-use native.Mathlib.Omega.{arith}
-use borrow.Author.Count.{below-more}
-use lib.ListN.{length}
-use Rattle·std.specs.Iters.{counting}
-use Rattle·std.specs.Joined.{joined}
-use Rattle·std.specs.Of.Vec.{vec-items}
-use Rattle·std.proofs.shelf.Lists.{length-map}
-use Rattle·std.proofs.shelf.Results.{err-from-errBy}
-use Rattle·carts.specs.Carts.{cart-of}
-use Rattle·rules.specs.Instances.{cart-count}
-use Rattle·rules.specs.Offers.{offers, label-count}
-use Rattle·offer_pages·specs.Texts.{cart-text}
-use Rattle·offer_pages·specs.Views.{meant}
-use Rattle·offer_pages·proofs.Adding.{cart-grows, page-stopped}
-use Rattle·offer_pages·proofs.Instances.{sound, all-right}
-use Rattle·offer_pages·proofs.page.write_page.Needs as need
+use Rattle.std.proofs.Common.{◌≡◌, ◌≤◌, [], vec_items, ap, ◌∙◌, arith, below_more}
+use Rattle.std.specs.List.{range_with_len, flat_map}
+use Rattle.std.proofs.lemmas.List.{length-map}
+use Rattle.std.proofs.lemmas.Result.{err_from_is_err_and}
+use Rattle.carts.specs.Carts.{cart_of}
+use Rattle.rules.specs.Instances.{cart_count}
+use Rattle.rules.specs.Offers.{offers, label_count}
+use Rattle.offer_pages.specs.Texts.{cart_text}
+use Rattle.offer_pages.specs.Views.{meant}
+use Rattle.offer_pages.proofs.Adding.{cart_grows, page-stopped}
+use Rattle.offer_pages.proofs.Instances.{sound, all_right}
+use Rattle.offer_pages.proofs.page.write_page.Goals as goal
 
-pub loop-cart-holds : need.loop-cart-holds
-loop-cart-holds g c = (c .new-out .ensures .items, λ n h. absurd (omega arith))
+pub loop-cart-init : goal.loop-cart-init
+loop-cart-init g c = (c.new-out.ensures.items, λ n h. absurd (omega arith))
 
-pub push-cart-requires : need.push-cart-requires
-push-cart-requires g c κs =
+pub push_cart-requires : goal.push_cart-requires
+push_cart-requires g c =
     record {
-      ready = record { ticks = c .pre .ready .ticks; many = c .loop-cart .kept .rows ∙ c .pre .ready .many; long = c .loop-cart .kept .places ∙ c .pre .ready .long; checked = c .pre .ready .checked };
-      known = omega (arith, c .loop-cart-test .taken, length-map (c .args .site .now .carts .now) cart-of);
+      ready = record { ticks = c.requires.ready.ticks; many = c.loop-cart.auto.rows ∙ c.requires.ready.many; long = c.loop-cart.auto.places ∙ c.requires.ready.long; checked = c.requires.ready.checked };
+      known = omega (arith, c.loop-cart-test.true, length-map c.args.site.now.carts.now cart_of);
     }
 
-pub returns-in-Break-push-cart : need.returns-in-Break-push-cart
-returns-in-Break-push-cart g c =
-    let i = meant (g .F·Floor .moves) (g .C·CostKind .kind) (c .args .site .now) in
-    let p = err-from-errBy (c .from-residual .result) (c .from-residual .ensures .1) in
-    rw (p .1, p .2)
-    (page-stopped (g .C·Text .text) i (c .loop-cart .cart) (vec-items (c .loop-cart .out)) (vec-items (c .push-cart .last .out)) (c .in-Break-push-cart .field-0 .0)
-    (omega (arith, c .loop-cart-test .taken, length-map (c .args .site .now .carts .now) cart-of)) (c .pre .ready .checked) (c .in-Break-push-cart .ensures tt))
+pub returns-in_err-push_cart : goal.returns-in_err-push_cart
+returns-in_err-push_cart g c =
+    let i = meant g.F.Floor.moves g.C.CostKind.kind c.args.site.now in
+    let p = err_from_is_err_and c.from_residual.result c.from_residual.ensures.1 in
+    rw (p.1, p.2)
+    (page-stopped g.C.Text.text i c.loop-cart.cart (vec_items c.loop-cart.out) (vec_items c.push_cart.new.out) c.in_err-push_cart.field-0.0
+    (omega (arith, c.loop-cart-test.true, length-map c.args.site.now.carts.now cart_of)) c.requires.ready.checked c.in_err-push_cart.ensures)
 
-pub loop-cart-again : need.loop-cart-again
-loop-cart-again g c =
-    let i = meant (g .F·Floor .moves) (g .C·CostKind .kind) (c .args .site .now) in
-    let added = c .in-Continue-push-cart .ensures tt in (
-      cart-grows (λ n. cart-text (g .C·Text .text) n (offers i n [])) (vec-items (c .loop-cart .out)) (vec-items (c .push-cart .last .out)) (c .loop-cart .cart) (c .loop-cart .inv .0) (added .1),
-      below-more (λ n. label-count i n [] ≤ 2048) (c .loop-cart .cart) (c .loop-cart .inv .1) (added .0),
+pub loop-cart-preserved : goal.loop-cart-preserved
+loop-cart-preserved g c =
+    let i = meant g.F.Floor.moves g.C.CostKind.kind c.args.site.now in
+    let added = c.in_ok-push_cart.ensures in (
+      cart_grows (λ n. cart_text g.C.Text.text n (offers i n [])) (vec_items c.loop-cart.out) (vec_items c.push_cart.new.out) c.loop-cart.cart c.loop-cart.invariant.0 added.1,
+      below_more (λ n. label_count i n [] ≤ 2048) c.loop-cart.cart c.loop-cart.invariant.1 added.0,
     )
 
-pub returns : need.returns
+pub returns : goal.returns
 returns g c =
-    let i = meant (g .F·Floor .moves) (g .C·CostKind .kind) (c .args .site .now) in
-    let ready = c .pre .ready in
-    let all : c .loop-cart .cart ≡ cart-count i = omega (arith, c .loop-cart-test .left, c .loop-cart .kept .cart-end, length-map (c .args .site .now .carts .now) cart-of) in (
-      ready .checked,
-      (λ n known. c .loop-cart .inv .1 n (omega (arith, known, all))),
-      all-right i (sound i (g .C·CostKind·met .laws) (g .F·Floor·met .bounds (c .args .site .now .floor .now)) (ready .checked)),
-      c .loop-cart .inv .0 ∙ ap (λ n. joined (λ k. cart-text (g .C·Text .text) k (offers i k [])) (counting 0 n)) all,
+    let i = meant g.F.Floor.moves g.C.CostKind.kind c.args.site.now in
+    let ready = c.requires.ready in
+    let all : c.loop-cart.cart ≡ cart_count i = omega (arith, c.loop-cart-test.false, c.loop-cart.auto.cart-end, length-map c.args.site.now.carts.now cart_of) in (
+      ready.checked,
+      (λ n known. c.loop-cart.invariant.1 n (omega (arith, known, all))),
+      all_right i (sound i g.met.C.CostKind.laws (g.met.F.Floor.bounds c.args.site.now.floor.now) ready.checked),
+      c.loop-cart.invariant.0 ∙ ap (λ n. flat_map (λ k. cart_text g.C.Text.text k (offers i k [])) (range_with_len 0 n)) all,
     )

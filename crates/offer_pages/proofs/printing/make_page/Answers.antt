@@ -1,10 +1,10 @@
-use Rattle·std.proofs.shelf.Results.{err-from-errBy}
-use Rattle·offer_pages·proofs.printing.make_page.Needs as need
+use Rattle.std.proofs.lemmas.Result.{err_from_is_err_and}
+use Rattle.offer_pages.proofs.printing.make_page.Goals as goal
 
-pub returns-in-Break-tariff : need.returns-in-Break-tariff
-returns-in-Break-tariff c =
-    let p = err-from-errBy (c .from-residual-in-Break-tariff .result) (c .from-residual-in-Break-tariff .ensures .1) in rw (p .1, p .2) tt
+pub returns-in_err-tariff : goal.returns-in_err-tariff
+returns-in_err-tariff c =
+    let p = err_from_is_err_and c.from_residual-in_err-tariff.result c.from_residual-in_err-tariff.ensures.1 in rw (p.1, p.2) tt
 
-pub returns-in-Break-carts : need.returns-in-Break-carts
-returns-in-Break-carts c =
-    let p = err-from-errBy (c .from-residual-in-Break-carts .result) (c .from-residual-in-Break-carts .ensures .1) in rw (p .1, p .2) tt
+pub returns-in_err-carts : goal.returns-in_err-carts
+returns-in_err-carts c =
+    let p = err_from_is_err_and c.from_residual-in_err-carts.result c.from_residual-in_err-carts.ensures.1 in rw (p.1, p.2) tt

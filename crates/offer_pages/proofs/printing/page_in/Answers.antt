@@ -1,55 +1,50 @@
-use mathlib.Core.Path.{_≡_, refl, sym, ap, subst, _∙_}
-use mathlib.Core.List.{map}
-use Prim.Native.Nat.{_-_, _≤_}
-use native.Mathlib.Omega.{arith}
-use borrow.Author.Needs.{needs}
-use lib.ListN.{length, take}
-use Rattle·carts.specs.Carts.{cart-of}
-use Rattle·floors.specs.MoveTables.{table-moves}
-use Rattle·rules.specs.Instances.{Instance}
-use Rattle·sites.specs.declared.rooms.Rooms.{Rooms}
-use Rattle·sites.specs.Reader.{tables}
-use Rattle·sites.specs.Sites.{said, Accepted}
-use Rattle·offer_pages·specs.Pages.{not-read}
-use Rattle·offer_pages·specs.Views.{Cost, site-kind, instance-of}
-use Rattle·offer_pages·proofs.Opening.{first-rows, rows-within, same-rooms, turned-down, page-made}
-use Rattle·offer_pages·proofs.printing.page_in.Needs as need
+use Rattle.std.proofs.Common.{◌≡◌, ◌-◌, ◌≤◌, map, length, take, sym, refl, ap, ◌∙◌, subst, arith, rules}
+use Rattle.carts.specs.Carts.{cart_of}
+use Rattle.floors.specs.MoveTables.{table_moves}
+use Rattle.rules.specs.Instances.{Instance}
+use Rattle.sites.specs.declared.rooms.Rooms.{Rooms}
+use Rattle.sites.specs.Reader.{tables}
+use Rattle.sites.specs.Sites.{said, Accepted}
+use Rattle.offer_pages.specs.Pages.{not_read}
+use Rattle.offer_pages.specs.Views.{Cost, site_kind, instance_of}
+use Rattle.offer_pages.proofs.Opening.{first_rows, rows_within, same_rooms, turned_down, page-made}
+use Rattle.offer_pages.proofs.printing.page_in.Goals as goal
 
-pub returns-in-Err : need.returns-in-Err
+pub returns-in-Err : goal.returns-in-Err
 returns-in-Err c =
-    let was = tables (c .args .lanes .now) (c .args .tariff .now) (c .args .carts .now) in
-    let after = tables (c .read-site .last .lanes) (c .read-site .last .tariff) (c .read-site .last .carts) in
-    not-read (c .in-Err .refusal) (turned-down (c .args .bytes .now) was after (c .in-Err .refusal) (same-rooms was (c .pre .lanes) (c .pre .tariff) (c .pre .carts)) (c .in-Err .ensures tt)) refl
+    let was = tables c.args.lanes.now c.args.tariff.now c.args.carts.now in
+    let after = tables c.read_site.new.lanes c.read_site.new.tariff c.read_site.new.carts in
+    not_read c.in-Err.refusal (turned_down c.args.bytes.now was after c.in-Err.refusal (same_rooms was c.requires.lanes c.requires.tariff c.requires.carts) c.in-Err.ensures) refl
 
-pub part-view-end : need.part-view-end
-part-view-end c =
-    let read = c .in-Ok .ensures tt in
-    let few : c .in-Ok .site .tariff ≤ length (c .read-site .last .tariff) =
-    omega (arith, read .holds .tariff, rows-within (said (read .records) .tariff) (c .args .tariff .now) (c .read-site .last .tariff) (ap (λ t. t .tariff) (read .written))) in
-    search needs
+pub slice_bounds-view-end : goal.slice_bounds-view-end
+slice_bounds-view-end c =
+    let read = c.in-Ok.ensures in
+    let few : c.in-Ok.site.tariff ≤ length c.read_site.new.tariff =
+    omega (arith, read.holds.tariff, rows_within (said read.records).tariff c.args.tariff.now c.read_site.new.tariff (ap (λ t. t.tariff) read.written)) in
+    search rules
 
-pub returns : need.returns
+pub returns : goal.returns
 returns c =
-    let read = c .in-Ok .ensures tt in
-    let s = said (read .records) in
-    let site = c .in-Ok .site in
-    let bytes = c .args .bytes .now in
-    let count : c .carts-count .result - 0 ≡ length (s .carts) = omega (arith, c .carts-count .ensures, read .holds .carts) in
-    let lines : site .tariff - 0 ≡ length (s .tariff) = omega (arith, read .holds .tariff) in
-    let carts = first-rows (s .carts) (c .args .carts .now) (c .read-site .last .carts) (c .carts-count .result - 0) (ap (λ t. t .carts) (read .written)) count in
-    let tariff = first-rows (s .tariff) (c .args .tariff .now) (c .read-site .last .tariff) (site .tariff - 0) (ap (λ t. t .tariff) (read .written)) lines in
-    let ticks = c .horizon-horizon .ensures ∙ read .holds .horizon in
+    let read = c.in-Ok.ensures in
+    let s = said read.records in
+    let site = c.in-Ok.site in
+    let bytes = c.args.bytes.now in
+    let count : c.carts-count.result - 0 ≡ length s.carts = omega (arith, c.carts-count.ensures, read.holds.carts) in
+    let lines : site.tariff - 0 ≡ length s.tariff = omega (arith, read.holds.tariff) in
+    let carts = first_rows s.carts c.args.carts.now c.read_site.new.carts (c.carts-count.result - 0) (ap (λ t. t.carts) read.written) count in
+    let tariff = first_rows s.tariff c.args.tariff.now c.read_site.new.tariff (site.tariff - 0) (ap (λ t. t.tariff) read.written) lines in
+    let ticks = c.horizon-horizon.ensures ∙ read.holds.horizon in
     let i : Instance Cost =
     record {
-      kind = site-kind;
-      moves = table-moves (site .floor .table);
-      tariff = take (site .tariff - 0) (c .read-site .last .tariff);
-      carts = map cart-of (take (c .carts-count .result - 0) (c .read-site .last .carts));
-      horizon = c .horizon-horizon .result;
+      kind = site_kind;
+      moves = table_moves site.floor.table;
+      tariff = take (site.tariff - 0) c.read_site.new.tariff;
+      carts = map cart_of (take (c.carts-count.result - 0) c.read_site.new.carts);
+      horizon = c.horizon-horizon.result;
     } in
-    let same : instance-of s ≡ i =
-    λ t. record { kind = site-kind; moves = sym (read .holds .floor) t; tariff = sym tariff t; carts = map cart-of (sym carts t); horizon = sym ticks t } in
-    let rooms = same-rooms (tables (c .args .lanes .now) (c .args .tariff .now) (c .args .carts .now)) (c .pre .lanes) (c .pre .tariff) (c .pre .carts) in
-    page-made bytes i (c .page-of .result)
-    (record { short = read .short; records = read .records; accepted = subst (λ (r : Rooms). Accepted r bytes (read .records)) rooms (read .accepted); says = same })
-    (c .page-of .ensures)
+    let same : instance_of s ≡ i =
+    λ t. record { kind = site_kind; moves = sym read.holds.floor t; tariff = sym tariff t; carts = map cart_of (sym carts t); horizon = sym ticks t } in
+    let rooms = same_rooms (tables c.args.lanes.now c.args.tariff.now c.args.carts.now) c.requires.lanes c.requires.tariff c.requires.carts in
+    page-made bytes i c.page_of.result
+    (record { short = read.short; records = read.records; accepted = subst (λ (r : Rooms). Accepted r bytes read.records) rooms read.accepted; says = same })
+    c.page_of.ensures

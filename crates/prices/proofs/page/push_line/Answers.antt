@@ -1,33 +1,25 @@
-use mathlib.Core.Path.{_≡_, sym, ap, _∙_}
-use mathlib.Core.List.{List, [], _∷_, _++_, append-assoc}
-use Prim.Native.Nat.{ℕ, _+_}
-use native.Mathlib.Omega.{arith}
-use lib.ListN.{length}
-use Rattle·std.specs.Of.Vec.{vec-items, vec-len}
-use Rattle·std.specs.Changed.{refilled}
-use Rattle·std.specs.declared.alloc.Global.{Global}
-use Rattle·std.specs.declared.vec.Vec.{Vec}
-use Rattle·std.specs.declared.option.Option.{Option}
-use Rattle·std.specs.declared.option.Option.the-variants.{Some, None}
-use Rattle·std.proofs.shelf.Lists.{append-nil, drop-all, refilled-is}
-use Rattle·costs.specs.Texts.{Wrote}
-use Rattle·prices·proofs.page.push_line.Needs as need
+use Rattle.std.proofs.Common.{◌≡◌, ℕ, List, [], ◌∷◌, ◌++◌, length, Some, None, vec_items, vec_len, Option, Vec, sym, ap, ◌∙◌, append_assoc, arith}
+use Rattle.std.specs.Vec.{with_items}
+use Rattle.std.specs.declared.alloc.Global.{Global}
+use Rattle.std.proofs.lemmas.List.{append-nil, drop_all, with_items_is}
+use Rattle.costs.specs.Texts.{Wrote}
+use Rattle.prices.proofs.page.push_line.Goals as goal
 
 -- a text that was given just its length is all that is there
 filled : (t was after : List ℕ) (r : Option ℕ) → Wrote t was after r → length was ≡ length t → after ≡ t
-filled t was after None w e = absurd (omega (arith, w .0))
-filled t was after (Some n) w e = w .2 ∙ ap (λ d. t ++ d) (drop-all (length t) was (omega arith)) ∙ append-nil t
+filled t was after None w e = absurd (omega (arith, w.0))
+filled t was after (Some n) w e = w.2 ∙ ap (λ d. t ++ d) (drop_all (length t) was (omega arith)) ∙ append-nil t
 
 -- the text that was written, and a newline, stand at the end
-line-pushed : (t lent after shown start mid end : List ℕ) (r : Option ℕ) (text : Vec ℕ Global) (len : ℕ) → len ≡ length t → vec-len text ≡ len → length lent ≡ vec-len text → Wrote t lent after r → shown ≡ vec-items (refilled text after) → mid ≡ start ++ shown → end ≡ mid ++ (10 ∷ []) → end ≡ start ++ (t ++ (10 ∷ []))
+line-pushed : (t lent after shown start mid end : List ℕ) (r : Option ℕ) (text : Vec ℕ Global) (len : ℕ) → len ≡ length t → vec_len text ≡ len → length lent ≡ vec_len text → Wrote t lent after r → shown ≡ vec_items (with_items text after) → mid ≡ start ++ shown → end ≡ mid ++ (10 ∷ []) → end ≡ start ++ (t ++ (10 ∷ []))
 line-pushed t lent after shown start mid end r text len l m n w s e f =
     let wrote = filled t lent after r w (n ∙ m ∙ l) in
-    let is : shown ≡ t = s ∙ refilled-is text after (ap length wrote ∙ sym (m ∙ l)) ∙ wrote in
-    f ∙ ap (λ b. b ++ (10 ∷ [])) (e ∙ ap (λ b. start ++ b) is) ∙ append-assoc start t (10 ∷ [])
+    let is : shown ≡ t = s ∙ with_items_is text after (ap length wrote ∙ sym (m ∙ l)) ∙ wrote in
+    f ∙ ap (λ b. b ++ (10 ∷ [])) (e ∙ ap (λ b. start ++ b) is) ∙ append_assoc start t (10 ∷ [])
 
-pub returns : need.returns
+pub returns : goal.returns
 returns g c =
-    line-pushed (g .C·Text .text (c .args .cost)) (c .as-mut-slice .result .now) (c .write-text .last .out) (c .as-slice .result .now)
-    (vec-items (c .args .out .now)) (vec-items (c .extend-from-slice .last .self)) (vec-items (c .push .last .self)) (c .write-text .result) (c .in-Continue-text .text) (c .in-Some .len)
-    (c .in-Some .ensures tt .0) (c .in-Continue-text .ensures tt .made .1) (c .as-mut-slice .ensures .len) (c .write-text .ensures) (c .as-slice .ensures .value)
-    (c .in-Continue-extend-from-slice .ensures tt .items) (c .in-Continue-push .ensures tt .items)
+    line-pushed (g.C.Text.text c.args.cost) c.as_mut_slice.result.now c.write_text.new.out c.as_slice.result.now
+    (vec_items c.args.out.now) (vec_items c.extend_from_slice.new.self) (vec_items c.push.new.self) c.write_text.result c.in_ok-text.text c.in-Some.len
+    c.in-Some.ensures.0 c.in_ok-text.ensures.len c.as_mut_slice.ensures.len c.write_text.ensures c.as_slice.ensures.value
+    c.in_ok-extend_from_slice.ensures.items c.in_ok-push.ensures.items

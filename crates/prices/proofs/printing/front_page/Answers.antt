@@ -1,18 +1,17 @@
-use mathlib.Core.Path.{ap}
-use Rattle·std.proofs.shelf.Results.{made-weaker, made-from-err}
-use Rattle·std.specs.declared.result.Result.the-variants.{Err}
-use Rattle·prices·specs.Printed.{of-costs, of-zones, of-none}
-use Rattle·prices·proofs.OnePrints.{one-readings, pages-exactly, one-print}
-use Rattle·prices·proofs.printing.front_page.Needs as need
+use Rattle.std.proofs.Common.{Err, ap}
+use Rattle.std.proofs.lemmas.Result.{IfOk-weaker, IfOk-from_err}
+use Rattle.prices.specs.Printed.{of_costs, of_zones, of_none}
+use Rattle.prices.proofs.OnePrints.{one_readings, pages_exactly, one_print}
+use Rattle.prices.proofs.printing.front_page.Goals as goal
 
-pub returns-in-Break-text : need.returns-in-Break-text
-returns-in-Break-text c = record { printed = made-from-err (c .from-residual .result) _ (c .from-residual .ensures .0); one-reading = one-readings; pages-exactly = pages-exactly; one-print = one-print }
+pub returns-in_err-text-in_default : goal.returns-in_err-text-in_default
+returns-in_err-text-in_default c = record { printed = IfOk-from_err c.from_residual.result _ c.from_residual.ensures.0; one_reading = one_readings; pages_exactly = pages_exactly; one_print = one_print }
 
-pub returns-in-costs : need.returns-in-costs
-returns-in-costs c = record { printed = made-weaker (c .answer-list .result) _ _ (λ a h. of-costs (c .in-costs .is) h) (c .answer-list .ensures); one-reading = one-readings; pages-exactly = pages-exactly; one-print = one-print }
+pub returns-in-costs : goal.returns-in-costs
+returns-in-costs c = record { printed = IfOk-weaker c.answer_list.result _ _ (λ a h. of_costs c.in-costs.is h) c.answer_list.ensures; one_reading = one_readings; pages_exactly = pages_exactly; one_print = one_print }
 
-pub returns-in-zones : need.returns-in-zones
-returns-in-zones c = record { printed = made-weaker (c .answer-list-in-zones .result) _ _ (λ a h. of-zones (c .in-zones .is) h) (c .answer-list-in-zones .ensures); one-reading = one-readings; pages-exactly = pages-exactly; one-print = one-print }
+pub returns-in-zones : goal.returns-in-zones
+returns-in-zones c = record { printed = IfOk-weaker c.answer_list-in-zones.result _ _ (λ a h. of_zones c.in-zones.is h) c.answer_list-in-zones.ensures; one_reading = one_readings; pages_exactly = pages_exactly; one_print = one_print }
 
-pub returns-in-Continue-text : need.returns-in-Continue-text
-returns-in-Continue-text c = record { printed = of-none (c .in-rest .not-costs) (c .in-rest .not-zones) (ap Err (c .in-Continue-text .ensures tt)); one-reading = one-readings; pages-exactly = pages-exactly; one-print = one-print }
+pub returns-in_ok-text-in_default : goal.returns-in_ok-text-in_default
+returns-in_ok-text-in_default c = record { printed = of_none c.in_default.not-costs c.in_default.not-zones (ap Err c.in_ok-text-in_default.ensures); one_reading = one_readings; pages_exactly = pages_exactly; one_print = one_print }

@@ -1,29 +1,29 @@
-use native.Mathlib.Omega.{arith}
-use Rattle·sites·proofs.Reaching.{front-long, misread-here, next-refused, next-inside, next-reached, all-read}
-use Rattle·sites·proofs.bodies.read_body.Needs as need
+use Rattle.std.proofs.Common.{arith}
+use Rattle.sites.proofs.Reaching.{front_long, misread_here, next_refused, next_inside, next_reached, all_read}
+use Rattle.sites.proofs.bodies.read_body.Goals as goal
 
-pub returns-in-rest : need.returns-in-rest
-returns-in-rest c =
-    misread-here (c .args .rooms) (c .args .bytes .now) (c .loop-at .at) (c .loop-at .line) (c .loop-at .reading) (c .loop-at .inv) (c .loop-at-test .taken) (c .in-rest .ensures tt)
+pub returns-in_default : goal.returns-in_default
+returns-in_default c =
+    misread_here c.args.rooms c.args.bytes.now c.loop-at.at c.loop-at.line c.loop-at.reading c.loop-at.invariant c.loop-at-test.true c.in_default.ensures
 
-pub returns-in-Err : need.returns-in-Err
+pub returns-in-Err : goal.returns-in-Err
 returns-in-Err c =
-    next-refused (c .args .rooms) (c .args .bytes .now) (c .loop-at .at) (c .loop-at .line) (c .loop-at .reading) (c .loop-at .inv)
-    (c .in-Some .«record») (c .in-Some .length) (c .in-Some .ensures tt) (c .in-Err .fault) (c .in-Err .ensures tt (c .loop-at .inv .before) (c .loop-at .inv .keeps))
+    next_refused c.args.rooms c.args.bytes.now c.loop-at.at c.loop-at.line c.loop-at.reading c.loop-at.invariant
+    c.in-Some.«record» c.in-Some.length c.in-Some.ensures c.in-Err.fault (c.in-Err.ensures c.loop-at.invariant.before c.loop-at.invariant.keeps)
 
-pub loop-at-less : need.loop-at-less
-loop-at-less c =
+pub loop-at-smaller : goal.loop-at-smaller
+loop-at-smaller c =
     omega (
       arith,
-      front-long _ (c .in-Some .«record») (c .in-Some .length) (c .in-Some .ensures tt),
-      next-inside (c .args .rooms) (c .args .bytes .now) (c .loop-at .at) (c .loop-at .line) (c .loop-at .reading) (c .loop-at .inv) (c .in-Some .«record») (c .in-Some .length) (c .in-Some .ensures tt),
+      front_long _ c.in-Some.«record» c.in-Some.length c.in-Some.ensures,
+      next_inside c.args.rooms c.args.bytes.now c.loop-at.at c.loop-at.line c.loop-at.reading c.loop-at.invariant c.in-Some.«record» c.in-Some.length c.in-Some.ensures,
     )
 
-pub loop-at-again : need.loop-at-again
-loop-at-again c =
-    next-reached (c .args .rooms) (c .args .bytes .now) (c .loop-at .at) (c .loop-at .line) (c .loop-at .reading) (c .loop-at .inv)
-    (c .in-Some .«record») (c .in-Some .length) (c .in-Some .ensures tt) (c .in-Ok .next) (c .in-Ok .ensures tt (c .loop-at .inv .before) (c .loop-at .inv .keeps))
+pub loop-at-preserved : goal.loop-at-preserved
+loop-at-preserved c =
+    next_reached c.args.rooms c.args.bytes.now c.loop-at.at c.loop-at.line c.loop-at.reading c.loop-at.invariant
+    c.in-Some.«record» c.in-Some.length c.in-Some.ensures c.in-Ok.next (c.in-Ok.ensures c.loop-at.invariant.before c.loop-at.invariant.keeps)
 
-pub returns : need.returns
+pub returns : goal.returns
 returns c =
-    all-read (c .args .rooms) (c .args .bytes .now) (c .loop-at .at) (c .loop-at .line) (c .loop-at .reading) (c .loop-at .inv) (c .loop-at-test .left)
+    all_read c.args.rooms c.args.bytes.now c.loop-at.at c.loop-at.line c.loop-at.reading c.loop-at.invariant c.loop-at-test.false

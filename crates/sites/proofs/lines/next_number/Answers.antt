@@ -1,43 +1,38 @@
-use mathlib.Core.Path.{_≡_, sym, _∙_, subst}
-use mathlib.Core.List.{List, _∷_}
-use Prim.Native.Nat.{ℕ, _≤_, _-_}
-use borrow.Author.Needs.{needs}
-use lib.ListN.{length, take, drop}
-use Rattle·std.specs.Written.{decimal}
-use Rattle·digits.specs.Splits.{Without}
-use Rattle·sites·proofs.LineReads.{first-byte, tail-same, not-without, no-next-number, after-digits, digits-within}
-use Rattle·sites·proofs.lines.next_number.Needs as need
+use Rattle.std.proofs.Common.{◌≡◌, ℕ, ◌-◌, ◌≤◌, List, ◌∷◌, length, take, drop, decimal, sym, ◌∙◌, subst, rules}
+use Rattle.digits.specs.Splits.{Without}
+use Rattle.sites.proofs.LineReads.{first_byte, tail_same, not_without, no_next_number, after_digits, digits_within}
+use Rattle.sites.proofs.lines.next_number.Goals as goal
 
 abbrev past : List ℕ → List ℕ
 past bs = take (length bs - 1) (drop 1 bs)
 
-pub returns-in-rest-split-once : need.returns-in-rest-split-once
-returns-in-rest-split-once c n more small e =
-    let first : c .args .bytes .now ≡ 32 ∷ past (c .args .bytes .now) = first-byte (c .args .bytes .now) 32 (search needs) (search needs) in
+pub returns-in_default-split_once : goal.returns-in_default-split_once
+returns-in_default-split_once c n more small e =
+    let first : c.args.bytes.now ≡ 32 ∷ past c.args.bytes.now = first_byte c.args.bytes.now 32 (search rules) (search rules) in
     let P : List ℕ → Type 0 = Without 32 in
-    not-without 32 (decimal n) more (subst P (tail-same 32 32 _ _ (sym first ∙ e)) (c .in-rest-split-once .ensures tt))
+    not_without 32 (decimal n) more (subst P (tail_same 32 32 _ _ (sym first ∙ e)) c.in_default-split_once.ensures)
 
-pub returns-in-rest-number : need.returns-in-rest-number
-returns-in-rest-number c n more small e =
-    let first : c .args .bytes .now ≡ 32 ∷ past (c .args .bytes .now) = first-byte (c .args .bytes .now) 32 (search needs) (search needs) in
-    no-next-number _ (c .in-Some .digits .now) (c .in-Some .field-0-1 .now) (c .in-Some .ensures tt .0) (c .in-Some .ensures tt .1) (c .in-rest-number .ensures tt)
-    n more small (tail-same 32 32 _ _ (sym first ∙ e))
+pub returns-in_default-number : goal.returns-in_default-number
+returns-in_default-number c n more small e =
+    let first : c.args.bytes.now ≡ 32 ∷ past c.args.bytes.now = first_byte c.args.bytes.now 32 (search rules) (search rules) in
+    no_next_number _ c.in-Some.digits.now c.in-Some.field-0-1.now c.in-Some.ensures.0 c.in-Some.ensures.1 c.in_default-number.ensures
+    n more small (tail_same 32 32 _ _ (sym first ∙ e))
 
-pub part-result-count : need.part-result-count
-part-result-count c = digits-within _ (c .in-Some .digits .now) (c .in-Some .field-0-1 .now) (c .in-Some .ensures tt .0)
+pub slice_bounds-result-count : goal.slice_bounds-result-count
+slice_bounds-result-count c = digits_within _ c.in-Some.digits.now c.in-Some.field-0-1.now c.in-Some.ensures.0
 
-pub part-result-start : need.part-result-start
-part-result-start c =
-    let h : length (c .in-Some .digits .now) ≤ length (past (c .args .bytes .now)) = digits-within _ (c .in-Some .digits .now) (c .in-Some .field-0-1 .now) (c .in-Some .ensures tt .0) in
-    search needs
+pub slice_bounds-result-start : goal.slice_bounds-result-start
+slice_bounds-result-start c =
+    let h : length c.in-Some.digits.now ≤ length (past c.args.bytes.now) = digits_within _ c.in-Some.digits.now c.in-Some.field-0-1.now c.in-Some.ensures.0 in
+    search rules
 
-pub returns : need.returns
+pub returns : goal.returns
 returns c =
-    let first : c .args .bytes .now ≡ 32 ∷ past (c .args .bytes .now) = first-byte (c .args .bytes .now) 32 (search needs) (search needs) in
-    let split = c .in-Some .ensures tt .0 in
-    let after = after-digits (past (c .args .bytes .now)) (c .in-Some .digits .now) (c .in-Some .field-0-1 .now) split in
-    let number = c .in-Some-number .ensures tt .1 in (
-      c .in-Some-number .ensures tt .0,
+    let first : c.args.bytes.now ≡ 32 ∷ past c.args.bytes.now = first_byte c.args.bytes.now 32 (search rules) (search rules) in
+    let split = c.in-Some.ensures.0 in
+    let after = after_digits (past c.args.bytes.now) c.in-Some.digits.now c.in-Some.field-0-1.now split in
+    let number = c.in-Some-number.ensures.1 in (
+      c.in-Some-number.ensures.0,
       cc,
-      (c .in-Some .field-0-1 .now, after),
+      (c.in-Some.field-0-1.now, after),
     )

@@ -1,5 +1,5 @@
-use Rattle·sites·proofs.LineReads.{no-number}
-use Rattle·sites·proofs.lines.number.Needs as need
+use Rattle.sites.proofs.LineReads.{no_number}
+use Rattle.sites.proofs.lines.number.Goals as goal
 
-pub returns-in-Err : need.returns-in-Err
-returns-in-Err c = no-number (c .args .bytes .now) (c .in-Err .field-0) (c .in-Err .ensures tt)
+pub returns-in-Err : goal.returns-in-Err
+returns-in-Err c = no_number c.args.bytes.now c.in-Err.field-0 c.in-Err.ensures

@@ -1,6 +1,6 @@
-use borrow.Author.Needs.{needs}
-use Rattle·sites·proofs.LineReads.{first-byte, one-number}
-use Rattle·sites·proofs.lines.one.Needs as need
+use Rattle.std.proofs.Common.{rules}
+use Rattle.sites.proofs.LineReads.{first_byte, one_number}
+use Rattle.sites.proofs.lines.one.Goals as goal
 
-pub returns : need.returns
-returns c = one-number (c .args .bytes .now) _ (first-byte (c .args .bytes .now) 32 (search needs) (search needs)) (c .number .result) (c .number .ensures)
+pub returns : goal.returns
+returns c = one_number c.args.bytes.now _ (first_byte c.args.bytes.now 32 (search rules) (search rules)) c.number.result c.number.ensures

@@ -1,5 +1,5 @@
-use Rattle·sites·proofs.Promising.{format-stands}
-use Rattle·sites·proofs.promises.format_stands.Needs as need
+use Rattle.sites.proofs.Promising.{format_stands}
+use Rattle.sites.proofs.promises.format_stands.Goals as goal
 
-pub returns : need.returns
-returns c = format-stands
+pub returns : goal.returns
+returns c = format_stands

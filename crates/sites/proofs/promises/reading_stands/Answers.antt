@@ -1,5 +1,5 @@
-use Rattle·sites·proofs.Promising.{reading-stands}
-use Rattle·sites·proofs.promises.reading_stands.Needs as need
+use Rattle.sites.proofs.Promising.{reading_stands}
+use Rattle.sites.proofs.promises.reading_stands.Goals as goal
 
-pub returns : need.returns
-returns c = reading-stands
+pub returns : goal.returns
+returns c = reading_stands

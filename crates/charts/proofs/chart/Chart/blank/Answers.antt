@@ -1,6 +1,6 @@
-use mathlib.Core.Path.{refl}
-use Rattle·charts·proofs.TickSets.{all-none}
-use Rattle·charts·proofs.chart.Chart.blank.Needs as need
+use Rattle.std.proofs.Common.{refl}
+use Rattle.charts.proofs.TickSets.{all_none}
+use Rattle.charts.proofs.chart.Chart.blank.Goals as goal
 
-pub returns : need.returns
-returns c = record { shut = refl; closed = all-none 1024 (c .none .result) (c .none .ensures) }
+pub returns : goal.returns
+returns c = record { shut = refl; closed = all_none 1024 c.none.result c.none.ensures }

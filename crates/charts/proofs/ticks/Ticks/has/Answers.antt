@@ -1,10 +1,10 @@
-use mathlib.Core.Path.{sym, _∙_}
-use Rattle·std.proofs.shelf.Tests.{le-ltb}
-use Rattle·charts·proofs.TickSets.{bit-has, high-has}
-use Rattle·charts·proofs.ticks.Ticks.has.Needs as need
+use Rattle.std.proofs.Common.{sym, ◌∙◌}
+use Rattle.std.proofs.lemmas.Bool.{le-ltb}
+use Rattle.charts.proofs.TickSets.{bit_has, high_has}
+use Rattle.charts.proofs.ticks.Ticks.has.Goals as goal
 
-pub returns-then-tick-lt64 : need.returns-then-tick-lt64
-returns-then-tick-lt64 c = bit-has (c .args .self) (c .args .tick)
+pub returns-then-tick-lt64 : goal.returns-then-tick-lt64
+returns-then-tick-lt64 c = bit_has c.args.self c.args.tick
 
-pub returns-else-tick-lt64 : need.returns-else-tick-lt64
-returns-else-tick-lt64 c = le-ltb (c .args .tick) 64 (c .if-tick-lt64 .left) ∙ sym (high-has (c .args .self) (c .args .tick) (c .if-tick-lt64 .left))
+pub returns-else-tick-lt64 : goal.returns-else-tick-lt64
+returns-else-tick-lt64 c = le-ltb c.args.tick 64 c.if-tick-lt64.false ∙ sym (high_has c.args.self c.args.tick c.if-tick-lt64.false)

@@ -1,6 +1,6 @@
-use mathlib.Core.Path.{refl}
-use Rattle·charts·proofs.TickSets.{none-has}
-use Rattle·charts·proofs.ticks.Ticks.none.Needs as need
+use Rattle.std.proofs.Common.{refl}
+use Rattle.charts.proofs.TickSets.{none_has}
+use Rattle.charts.proofs.ticks.Ticks.none.Goals as goal
 
-pub returns : need.returns
-returns c = none-has _ refl
+pub returns : goal.returns
+returns c = none_has _ refl

@@ -1,13 +1,11 @@
-use mathlib.Core.Path.{refl}
-use Prim.Native.Nat.{_^_}
-use native.Mathlib.Omega.{arith}
-use lib.Bits.{or-lt}
-use Rattle·std.proofs.shelf.Bits.{mod-below}
-use Rattle·charts·proofs.TickSets.{more-has}
-use Rattle·charts·proofs.ticks.Ticks.with.Needs as need
+use Rattle.std.proofs.Common.{◌^◌, refl, arith}
+use lib.Bits.{or_lt}
+use Rattle.std.proofs.lemmas.Nat.{mod_below}
+use Rattle.charts.proofs.TickSets.{more_has}
+use Rattle.charts.proofs.ticks.Ticks.with.Goals as goal
 
-pub ghost-result : need.ghost-result
-ghost-result c = (or-lt 64 (c .args .self .bits) _ (c .args .self .fits) (mod-below _ (2 ^ 64) (omega arith)), tt)
+pub invariant_of-result : goal.invariant_of-result
+invariant_of-result c = record { fits = or_lt 64 c.args.self.bits _ c.args.self.fits (mod_below _ (2 ^ 64) (omega arith)) }
 
-pub returns : need.returns
-returns c = more-has (c .args .self) _ (c .args .tick) (omega (arith, c .if-tick-gt63 .left)) refl
+pub returns : goal.returns
+returns c = more_has c.args.self _ c.args.tick (omega (arith, c.if-tick-gt63.false)) refl

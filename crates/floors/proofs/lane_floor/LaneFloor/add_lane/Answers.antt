@@ -1,29 +1,28 @@
-use mathlib.Core.Path.{sym, ap, _∙_}
-use native.Mathlib.Omega.{arith}
-use Rattle·floors·specs.Lanes.{lane-count}
-use Rattle·floors·specs.MoveTables.{table-moves}
-use Rattle·floors·proofs.LaneTables.{count-extended, count-few, fits-from, fits-to}
-use Rattle·floors·proofs.Tables.{table-bounds}
-use Rattle·floors·proofs.lane_floor.LaneFloor.add_lane.Needs as need
+use Rattle.std.proofs.Common.{sym, ap, ◌∙◌, arith}
+use Rattle.floors.specs.Lanes.{lane_count}
+use Rattle.floors.specs.MoveTables.{table_moves}
+use Rattle.floors.proofs.LaneTables.{count_extended, count_few, fits_from, fits_to}
+use Rattle.floors.specs.Tables.{table_bounds}
+use Rattle.floors.proofs.lane_floor.LaneFloor.add_lane.Goals as goal
 
-pub cast-row : need.cast-row
-cast-row c =
-    let bounds = table-bounds (c .args .self .now .table) in
-    omega (arith, fits-from (table-moves (c .args .self .now .table)) (c .args .row) (sym (c .if-not-takes .ensures tt)))
+pub overflow_cast-row : goal.overflow_cast-row
+overflow_cast-row c =
+    let bounds = table_bounds c.args.self.now.table in
+    omega (arith, fits_from (table_moves c.args.self.now.table) c.args.row (sym c.if-not-takes.ensures))
 
-pub cast-row-2 : need.cast-row-2
-cast-row-2 c =
-    let bounds = table-bounds (c .args .self .now .table) in
-    omega (arith, fits-to (table-moves (c .args .self .now .table)) (c .args .row) (sym (c .if-not-takes .ensures tt)))
+pub overflow_cast-row-2 : goal.overflow_cast-row-2
+overflow_cast-row-2 c =
+    let bounds = table_bounds c.args.self.now.table in
+    omega (arith, fits_to (table_moves c.args.self.now.table) c.args.row (sym c.if-not-takes.ensures))
 
-pub add-self : need.add-self
-add-self c =
-    let counted = c .args .self .now .counted in
-    omega (arith, count-few (table-moves (c .args .self .now .table)) (table-bounds (c .args .self .now .table)))
+pub overflow_add-self : goal.overflow_add-self
+overflow_add-self c =
+    let counted = c.args.self.now.counted in
+    omega (arith, count_few (table_moves c.args.self.now.table) (table_bounds c.args.self.now.table))
 
-pub ghost-self : need.ghost-self
-ghost-self c =
-    let from = fits-from (table-moves (c .args .self .now .table)) (c .args .row) (sym (c .if-not-takes .ensures tt)) in
-    let more = ap lane-count (c .push .ensures) ∙ count-extended (table-moves (c .args .self .now .table)) (c .args .row .from) _ from in
-    let counted = c .args .self .now .counted in
-    (omega arith, tt)
+pub invariant_of-self : goal.invariant_of-self
+invariant_of-self c =
+    let from = fits_from (table_moves c.args.self.now.table) c.args.row (sym c.if-not-takes.ensures) in
+    let more = ap lane_count c.push.ensures ∙ count_extended (table_moves c.args.self.now.table) c.args.row.from _ from in
+    let counted = c.args.self.now.counted in
+    record { counted = omega arith }

@@ -1,7 +1,7 @@
-use mathlib.Core.Path.{sym, ap, _∙_}
-use Rattle·floors·specs.Lanes.{lane-count}
-use Rattle·floors·proofs.LaneTables.{count-none}
-use Rattle·floors·proofs.lane_floor.LaneFloor.empty.Needs as need
+use Rattle.std.proofs.Common.{sym, ap, ◌∙◌}
+use Rattle.floors.specs.Lanes.{lane_count}
+use Rattle.floors.proofs.LaneTables.{count_none}
+use Rattle.floors.proofs.lane_floor.LaneFloor.empty.Goals as goal
 
-pub ghost-result : need.ghost-result
-ghost-result c = (sym (ap lane-count (c .empty .ensures) ∙ count-none (c .args .places)), tt)
+pub invariant_of-result : goal.invariant_of-result
+invariant_of-result c = record { counted = sym (ap lane_count c.empty.ensures ∙ count_none c.args.places) }

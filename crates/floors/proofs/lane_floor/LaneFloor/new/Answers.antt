@@ -1,31 +1,31 @@
-use Rattle·std.proofs.shelf.Results.{err-from-errBy}
-use Rattle·floors·specs.declared.lane_row.LaneRow.{LaneRow}
-use Rattle·floors·specs.MoveTables.{table-moves}
-use Rattle·floors·proofs.LaneTables.{read-all, read-more, read-none, read-refused}
-use Rattle·floors·proofs.lane_floor.LaneFloor.new.Needs as need
+use Rattle.std.proofs.lemmas.Result.{err_from_is_err_and}
+use Rattle.floors.specs.declared.lane_row.LaneRow.{LaneRow}
+use Rattle.floors.specs.MoveTables.{table_moves}
+use Rattle.floors.proofs.LaneTables.{read_all, read_more, read_none, read_refused}
+use Rattle.floors.proofs.lane_floor.LaneFloor.new.Goals as goal
 
 abbrev blank : LaneRow
 blank = record { from = 0; to = 0; line = 0 }
 
-pub loop-row-holds : need.loop-row-holds
-loop-row-holds c =
-    let made = c .in-Continue-floor .ensures tt in
-    read-none (c .args .places) (c .args .rows .now) _ (made .refusal) (made .moves)
+pub loop-row-init : goal.loop-row-init
+loop-row-init c =
+    let made = c.in_ok-floor.ensures in
+    read_none c.args.places c.args.rows.now _ made.refusal made.moves
 
-pub loop-row-again : need.loop-row-again
-loop-row-again c =
-    let added = c .in-Continue-add-lane .ensures tt in
-    read-more (c .args .places) (c .args .rows .now) (table-moves (c .loop-row .floor .table)) (c .loop-row .row-index) blank
-    (c .loop-row-test .taken) (c .loop-row .inv) (table-moves (c .add-lane .last .self .table)) (added .refusal) (added .moves)
+pub loop-row-preserved : goal.loop-row-preserved
+loop-row-preserved c =
+    let added = c.in_ok-add_lane.ensures in
+    read_more c.args.places c.args.rows.now (table_moves c.loop-row.floor.table) c.loop-row.row-index blank
+    c.loop-row-test.true c.loop-row.invariant (table_moves c.add_lane.new.self.table) added.refusal added.moves
 
-pub returns-in-Break-add-lane : need.returns-in-Break-add-lane
-returns-in-Break-add-lane c =
-    let p = err-from-errBy (c .from-residual-in-Break-add-lane .result) (c .from-residual-in-Break-add-lane .ensures .1) in
-    let first = read-refused (c .args .places) (c .args .rows .now) (table-moves (c .loop-row .floor .table)) (c .loop-row .row-index) blank
-    (c .loop-row-test .taken) (c .loop-row .inv) _ (c .in-Break-add-lane .ensures tt .refusal) in
-    rw (p .1, p .2) (record { refusal = first; moves = tt })
+pub returns-in_err-add_lane : goal.returns-in_err-add_lane
+returns-in_err-add_lane c =
+    let p = err_from_is_err_and c.from_residual-in_err-add_lane.result c.from_residual-in_err-add_lane.ensures.1 in
+    let first = read_refused c.args.places c.args.rows.now (table_moves c.loop-row.floor.table) c.loop-row.row-index blank
+    c.loop-row-test.true c.loop-row.invariant _ c.in_err-add_lane.ensures.refusal in
+    rw (p.1, p.2) (record { refusal = first; moves = tt })
 
-pub returns : need.returns
+pub returns : goal.returns
 returns c =
-    let all = read-all (c .args .places) (c .args .rows .now) (table-moves (c .loop-row .floor .table)) (c .loop-row .row-index) (c .loop-row-test .left) (c .loop-row .inv) in
-    record { refusal = all .0; moves = all .1 }
+    let all = read_all c.args.places c.args.rows.now (table_moves c.loop-row.floor.table) c.loop-row.row-index c.loop-row-test.false c.loop-row.invariant in
+    record { refusal = all.0; moves = all.1 }

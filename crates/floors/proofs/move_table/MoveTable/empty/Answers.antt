@@ -1,9 +1,9 @@
-use mathlib.Core.Path.{refl}
-use Rattle·floors·proofs.Tables.{new-inside, new-moves}
-use Rattle·floors·proofs.move_table.MoveTable.empty.Needs as need
+use Rattle.std.proofs.Common.{refl}
+use Rattle.floors.specs.Tables.{new_inside, new_moves}
+use Rattle.floors.proofs.move_table.MoveTable.empty.Goals as goal
 
-pub ghost-result : need.ghost-result
-ghost-result c = (c .pre .0, (c .pre .1, (refl, (new-inside (c .args .places) (c .pre .0), tt))))
+pub invariant_of-result : goal.invariant_of-result
+invariant_of-result c = record { nonempty = c.requires.0; few = c.requires.1; full = refl; inside = new_inside c.args.places c.requires.0 }
 
-pub returns : need.returns
-returns c = new-moves (c .args .places) _ (c .pre .1) refl
+pub returns : goal.returns
+returns c = new_moves c.args.places _ c.requires.1 refl

@@ -1,34 +1,32 @@
-use mathlib.Core.Path.{refl}
-use lib.ListN.{getD, length-set}
-use native.Mathlib.Omega.{arith}
-use Rattle·floors·proofs.Tables.{push-inside, push-room, table-length, table-push}
-use Rattle·floors·proofs.move_table.MoveTable.push.Needs as need
+use Rattle.std.proofs.Common.{get_or, refl, arith, length-set}
+use Rattle.floors.specs.Tables.{push_inside, push_room, table_length, table_push}
+use Rattle.floors.proofs.move_table.MoveTable.push.Goals as goal
 
-pub listed : need.listed
-listed c = omega (arith, table-length (c .args .self .now))
+pub listed : goal.listed
+listed c = omega (arith, table_length c.args.self.now)
 
-pub index-self-place : need.index-self-place
-index-self-place c = omega (arith, table-length (c .args .self .now))
+pub bounds-self-place : goal.bounds-self-place
+bounds-self-place c = omega (arith, table_length c.args.self.now)
 
-pub index-list-list : need.index-list-list
-index-list-list c = push-room (c .args .self .now) (c .args .place) _ (c .pre .from) (c .pre .room)
+pub bounds-list-list : goal.bounds-list-list
+bounds-list-list c = push_room c.args.self.now c.args.place _ c.requires.from c.requires.room
 
-pub ghost-list : need.ghost-list
-ghost-list c =
-    let was = getD (c .args .self .now .lists) (c .args .place) (c .index-self-place .result) in
-    let room = push-room (c .args .self .now) (c .args .place) (c .index-self-place .result) (c .pre .from) (c .pre .room) in
-    (omega arith, (simp length-set (was .full), tt))
+pub invariant_of-list : goal.invariant_of-list
+invariant_of-list c =
+    let was = get_or c.args.self.now.lists c.args.place c.index-self-place.result in
+    let room = push_room c.args.self.now c.args.place c.index-self-place.result c.requires.from c.requires.room in
+    record { few = omega arith; full = simp length-set was.full }
 
-pub listed-2 : need.listed-2
-listed-2 c = omega (arith, table-length (c .args .self .now))
+pub listed-2 : goal.listed-2
+listed-2 c = omega (arith, table_length c.args.self.now)
 
-pub index-self-place-2 : need.index-self-place-2
-index-self-place-2 c = omega (arith, table-length (c .args .self .now))
+pub bounds-self-place-2 : goal.bounds-self-place-2
+bounds-self-place-2 c = omega (arith, table_length c.args.self.now)
 
-pub ghost-self : need.ghost-self
-ghost-self c =
-    let inside = push-inside (c .args .self .now) (c .args .place) (c .index-self-place .result) _ (c .args .step) (c .pre .from) refl (c .pre .to) in
-    (c .args .self .now .nonempty, (c .args .self .now .few, (simp length-set (c .args .self .now .full), (inside, tt))))
+pub invariant_of-self : goal.invariant_of-self
+invariant_of-self c =
+    let inside = push_inside c.args.self.now c.args.place c.index-self-place.result _ c.args.step c.requires.from refl c.requires.to in
+    record { nonempty = c.args.self.now.nonempty; few = c.args.self.now.few; full = simp length-set c.args.self.now.full; inside = inside }
 
-pub returns : need.returns
-returns c = table-push (c .args .self .now) (c .args .place) (c .index-self-place .result) _ (c .args .step) (c .pre .from) refl (c .pre .room) refl
+pub returns : goal.returns
+returns c = table_push c.args.self.now c.args.place c.index-self-place.result _ c.args.step c.requires.from refl c.requires.room refl

@@ -1,6 +1,6 @@
-use mathlib.Core.Path.{sym, _∙_}
-use Rattle·std.proofs.shelf.Lists.{length-map, length-take}
-use Rattle·fronts·proofs.list.FrontList.used.Needs as need
+use Rattle.std.proofs.Common.{sym, ◌∙◌}
+use Rattle.std.proofs.lemmas.List.{length-map, length-take}
+use Rattle.fronts.proofs.list.FrontList.used.Goals as goal
 
-pub returns : need.returns
-returns g c = c .min .ensures ∙ sym (simp (length-map, length-take))
+pub returns : goal.returns
+returns g c = c.min.ensures ∙ sym (simp (length-map, length-take))

@@ -1,9 +1,8 @@
-use mathlib.Core.Path.{ap, _∙_}
-use lib.ListN.{getD}
-use Rattle·std.proofs.shelf.Results.{made-weaker}
-use Rattle·offer_pages·specs.Faults.{refusal-line}
-use Rattle·offer_pages·proofs.fault.Fault.text.Needs as need
+use Rattle.std.proofs.Common.{get_or, ap, ◌∙◌}
+use Rattle.std.proofs.lemmas.Result.{IfOk-weaker}
+use Rattle.offer_pages.specs.Faults.{refusal_line}
+use Rattle.offer_pages.proofs.fault.Fault.text.Goals as goal
 
-pub returns : need.returns
+pub returns : goal.returns
 returns c =
-    made-weaker (c .refusal-line .result) _ _ (λ s h. h ∙ ap (λ ns. refusal-line (getD ns 0 0) (getD ns 1 0) (getD ns 2 0) (getD ns 3 0)) (c .numbers-numbers .ensures)) (c .refusal-line .ensures)
+    IfOk-weaker c.refusal_line.result _ _ (λ s h. h ∙ ap (λ ns. refusal_line (get_or ns 0 0) (get_or ns 1 0) (get_or ns 2 0) (get_or ns 3 0)) c.numbers-numbers.ensures) c.refusal_line.ensures

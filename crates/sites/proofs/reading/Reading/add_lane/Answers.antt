@@ -1,35 +1,34 @@
-use mathlib.Core.Path.{refl, sym, ap, _∙_}
-use Prim.Native.Nat.{_+_}
-use Rattle·std.proofs.shelf.Lists.{length-push}
-use Rattle·floors.specs.Lanes.{lane-count}
-use Rattle·sites·proofs.Keeping.{lane-taken, lane-means, lane-counted, lane-refused}
-use Rattle·sites·proofs.reading.Reading.add_lane.Needs as need
+use Rattle.std.proofs.Common.{◌+◌, sym, refl, ap, ◌∙◌}
+use Rattle.std.proofs.lemmas.List.{length_push}
+use Rattle.floors.specs.Lanes.{lane_count}
+use Rattle.sites.proofs.Keeping.{lane_taken, lane_means, lane_counted, lane_refused}
+use Rattle.sites.proofs.reading.Reading.add_lane.Goals as goal
 
-pub returns-in-Ok : need.returns-in-Ok
+pub returns-in-Ok : goal.returns-in-Ok
 returns-in-Ok c =
-    let row = c .args .row in
-    let none = c .in-Ok .ensures tt .refusal in
-    let more = c .in-Ok .ensures tt .moves in
+    let row = c.args.row in
+    let none = c.in-Ok.ensures.refusal in
+    let more = c.in-Ok.ensures.moves in
     record {
       taken = λ s h. (
-        lane-taken (s .places) (s .lanes) row _ (h .floor) (h .counted) none,
+        lane_taken s.places s.lanes row _ h.floor h.counted none,
         record {
-          horizon = h .horizon;
-          entered = h .entered;
-          carts = h .carts;
-          rows = h .rows;
-          floor = more ∙ lane-means (s .places) (s .lanes) row _ (h .floor) (h .counted) none;
-          counted = ap lane-count more ∙ lane-counted (s .places) (s .lanes) row _ (h .floor) (h .counted) none;
-          lanes = ap (λ n. n + 1) (h .lanes) ∙ sym (length-push (s .lanes) row);
-          tariff = h .tariff;
+          horizon = h.horizon;
+          entered = h.entered;
+          carts = h.carts;
+          rows = h.rows;
+          floor = more ∙ lane_means s.places s.lanes row _ h.floor h.counted none;
+          counted = ap lane_count more ∙ lane_counted s.places s.lanes row _ h.floor h.counted none;
+          lanes = ap (λ n. n + 1) h.lanes ∙ sym (length_push s.lanes row);
+          tariff = h.tariff;
         },
       );
       kept = (refl, refl);
     }
 
-pub returns-in-Err : need.returns-in-Err
+pub returns-in-Err : goal.returns-in-Err
 returns-in-Err c =
     record {
-      taken = λ s h. lane-refused (s .places) (s .lanes) (c .args .row) _ (h .floor) (h .counted) (c .in-Err .why) (c .in-Err .ensures tt .refusal);
+      taken = λ s h. lane_refused s.places s.lanes c.args.row _ h.floor h.counted c.in-Err.why c.in-Err.ensures.refusal;
       kept = tt;
     }

@@ -1,6 +1,6 @@
-use Rattle·sites·proofs.NextRecord.{lane-took}
-use Rattle·sites·proofs.reading.Reading.take_lane.Needs as need
+use Rattle.sites.proofs.NextRecord.{lane_took}
+use Rattle.sites.proofs.reading.Reading.take_lane.Goals as goal
 
-pub returns : need.returns
+pub returns : goal.returns
 returns c before k =
-    lane-took (c .args .rooms) before (c .args .self) k (c .args .row) (c .if-self-gt-LANE .left) (c .if-self-rooms .left) (c .add-lane .result) (c .add-lane .ensures .taken) (c .add-lane .ensures .kept)
+    lane_took c.args.rooms before c.args.self k c.args.row c.if-self-gt-LANE.false c.if-self-rooms.false c.add_lane.result c.add_lane.ensures.taken c.add_lane.ensures.kept

@@ -1,5 +1,5 @@
-use Rattle·sites·proofs.NextRecord.{line-took}
-use Rattle·sites·proofs.reading.Reading.take_line.Needs as need
+use Rattle.sites.proofs.NextRecord.{line_took}
+use Rattle.sites.proofs.reading.Reading.take_line.Goals as goal
 
-pub returns : need.returns
-returns c before k = line-took (c .args .rooms) before (c .args .self) k (c .args .total) (c .args .worst) (c .if-self-gt-LINE .left) (c .if-self-rooms .left)
+pub returns : goal.returns
+returns c before k = line_took c.args.rooms before c.args.self k c.args.total c.args.worst c.if-self-gt-LINE.false c.if-self-rooms.false

@@ -1,6 +1,6 @@
-use mathlib.Core.Path.{sym}
-use Rattle·floors·proofs.Tables.{table-length}
-use Rattle·floors·proofs.move_table.asking.MoveTableFloor.places.Needs as need
+use Rattle.std.proofs.Common.{sym}
+use Rattle.floors.specs.Tables.{table_length}
+use Rattle.floors.proofs.move_table.asking.MoveTableFloor.places.Goals as goal
 
-pub returns : need.returns
-returns c = sym (table-length (c .args .self .now))
+pub returns : goal.returns
+returns c = sym (table_length c.args.self.now)

@@ -1,20 +1,19 @@
-use mathlib.Core.Path.{sym, ap, _∙_}
-use lib.ListN.{getD, getElem?}
-use native.Mathlib.Omega.{arith}
-use Rattle·floors·proofs.Tables.{at-past, count-at, held-at, table-at, table-past}
-use Rattle·floors·proofs.move_table.asking.MoveTableFloor.step.Needs as need
+use Rattle.std.proofs.Common.{get_or, sym, ap, ◌∙◌, arith}
+use lib.ListN.{get_elem?}
+use Rattle.floors.specs.Tables.{at_past, count_at, held_at, table_at, table_past}
+use Rattle.floors.proofs.move_table.asking.MoveTableFloor.step.Goals as goal
 
-pub returns-then-place-self : need.returns-then-place-self
+pub returns-then-place-self : goal.returns-then-place-self
 returns-then-place-self c =
-    sym (ap (λ ms. getElem? ms (c .args .number)) (table-past (c .args .self .now) (c .args .place) (c .if-place-self .taken)))
+    sym (ap (λ ms. get_elem? ms c.args.number) (table_past c.args.self.now c.args.place c.if-place-self.true))
 
-pub returns-then-number-list : need.returns-then-number-list
+pub returns-then-number-list : goal.returns-then-number-list
 returns-then-number-list c =
-    let count = count-at (c .args .self .now) (c .args .place) (c .index-self-place .result) (c .if-place-self .left) in
-    sym (at-past _ (c .args .number) (omega arith))
+    let count = count_at c.args.self.now c.args.place c.index-self-place.result c.if-place-self.false in
+    sym (at_past _ c.args.number (omega arith))
 
-pub returns : need.returns
+pub returns : goal.returns
 returns c =
-    let list = getD (c .args .self .now .lists) (c .args .place) (c .index-self-place .result) in
-    let here = table-at (c .args .self .now) (c .args .place) (c .index-self-place .result) (c .if-place-self .left) in
-    sym (ap (λ ms. getElem? ms (c .args .number)) here ∙ held-at list (c .args .number) _ (c .if-number-list .left))
+    let list = get_or c.args.self.now.lists c.args.place c.index-self-place.result in
+    let here = table_at c.args.self.now c.args.place c.index-self-place.result c.if-place-self.false in
+    sym (ap (λ ms. get_elem? ms c.args.number) here ∙ held_at list c.args.number _ c.if-number-list.false)

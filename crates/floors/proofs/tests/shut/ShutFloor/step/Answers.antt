@@ -1,7 +1,7 @@
-use mathlib.Core.Path.{sym, ap}
-use lib.ListN.{getElem?}
-use Rattle·floors·proofs.Shut.{shut-place}
-use Rattle·floors·proofs.tests.shut.ShutFloor.step.Needs as need
+use Rattle.std.proofs.Common.{sym, ap}
+use lib.ListN.{get_elem?}
+use Rattle.floors.specs.Shut.{shut_place}
+use Rattle.floors.proofs.tests.shut.ShutFloor.step.Goals as goal
 
-pub returns-then-place-self : need.returns-then-place-self
-returns-then-place-self g c = sym (ap (λ ms. getElem? ms (c .args .number)) (shut-place _ _ _ (c .if-place-self .taken)))
+pub returns-then-place-self : goal.returns-then-place-self
+returns-then-place-self g c = sym (ap (λ ms. get_elem? ms c.args.number) (shut_place _ _ _ c.if-place-self.true))

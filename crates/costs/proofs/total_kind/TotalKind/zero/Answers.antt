@@ -1,6 +1,0 @@
-use borrow.Author.Needs.{needs}
-use Rattle·costs·specs.Totals.{total-same}
-use Rattle·costs·proofs.total_kind.TotalKind.zero.Needs as need
-
-pub returns : need.returns
-returns c = total-same _ _ (search needs)

@@ -1,8 +1,0 @@
-use Prim.Native.Nat.{_*_}
-use Rattle·floors·specs.Grids.{cell-moves}
-use Rattle·floors·specs.MoveTables.{table-moves}
-use Rattle·floors·proofs.Cells.{Filled}
-use Rattle·floors·proofs.grid_floor.GridFloor.new.Given as given
-
-abbrev pub Inv-loop-place : given.InvT-loop-place
-Inv-loop-place l = Filled (cell-moves (l .width) (l .height) (l .cells)) (l .width * l .height) (table-moves (l .table)) (l .place)

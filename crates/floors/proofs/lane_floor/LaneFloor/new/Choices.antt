@@ -1,6 +1,0 @@
-use Rattle·floors·specs.MoveTables.{table-moves}
-use Rattle·floors·proofs.LaneTables.{Read}
-use Rattle·floors·proofs.lane_floor.LaneFloor.new.Given as given
-
-abbrev pub Inv-loop-row : given.InvT-loop-row
-Inv-loop-row l = Read (l .places) (l .rows) (table-moves (l .floor .table)) (l .row-index)

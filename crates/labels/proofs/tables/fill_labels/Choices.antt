@@ -1,9 +1,0 @@
-use mathlib.Core.Path.{_≡_}
-use Rattle·labels·specs.Queries.{asked}
-use Rattle·labels·specs.Tables.{Hold, Laid, cells-before}
-use Rattle·labels·proofs.tables.fill_labels.Given as given
-
-abbrev pub Inv-loop-tick : given.InvT-loop-tick
-Inv-loop-tick g l =
-    let a = asked (g .F·Floor .moves) (g .C·CostKind .kind) (g .B·Constrains .constraint) (l .query) in
-    (l .layer .tick ≡ l .tick) × Laid a (l .layer) × Hold (l .rows) (l .starts) (cells-before a (l .layer .tick)) (l .n)
