@@ -10,6 +10,7 @@ use costs::CostKind;
 
 // Adds a row to the front in the first `len` rows: nothing changes where one of them covers its cost; else those that its cost
 // is at most are removed and it stands at its place. Where those that stay fill the slice, nothing changes either.
+#[tactic(auto, using(crate::proofs::Additions::holds_within))]
 pub fn add<C: CostKind>(rows: &mut [Row<C>], len: usize, row: Row<C>) -> Added
     ensures { Adds C.CostKind.kind (in_use len rows.old) (entry_of row) rows.old rows.new result }
 {

@@ -1,6 +1,6 @@
-use Rattle.std.proofs.Common.{length, sym, refl, arith, rules}
+use Rattle.std.proofs.Common.{length, sym, refl, arith}
 use Rattle.fronts.specs.Rows.{entry_of, in_use}
-use Rattle.fronts.proofs.Additions.{added_holds, added_too_long, holds_within, stay_with_room}
+use Rattle.fronts.proofs.Additions.{added_holds, added_too_long, stay_with_room}
 use Rattle.fronts.proofs.adding.add.Goals as goal
 use Rattle.fronts.proofs.adding.add.Goals.{else-len-rows-via-then-len-rows+else-count_unbeaten-rows, else-len-rows-via-else-len-rows}
 
@@ -20,9 +20,6 @@ put-requires g c =
       | else-len-rows-via-else-len-rows w ↦
           let room = stay_with_room g.C.CostKind.kind c.args.rows.now c.args.len c.args.row.cost (omega (arith, w.if-len-rows.false)) in omega (arith, stay.count, stay.long, room)
     ]
-
-pub overflow_add-result : goal.overflow_add-result
-overflow_add-result g c = let within = holds_within c.put.ensures in search rules
 
 pub returns : goal.returns
 returns g c =
