@@ -6,14 +6,25 @@ pub trait Worded: CostKind {
     fn read(words: &mut Words<'_>) -> anyhow::Result<Self>;
 }
 
-impl Worded for Pair<Total, Worst> {
-    fn read(words: &mut Words<'_>) -> anyhow::Result<Pair<Total, Worst>> {
-        let total = words.number::<u32>()?;
-        let worst = words.number::<u16>()?;
-        Ok(Pair {
-            first: Total { value: total },
-            second: Worst { value: worst },
-        })
+impl Worded for Total {
+    fn read(words: &mut Words<'_>) -> anyhow::Result<Total> {
+        let value = words.number::<u32>()?;
+        Ok(Total { value })
+    }
+}
+
+impl Worded for Worst {
+    fn read(words: &mut Words<'_>) -> anyhow::Result<Worst> {
+        let value = words.number::<u16>()?;
+        Ok(Worst { value })
+    }
+}
+
+impl<A: Worded, B: Worded> Worded for Pair<A, B> {
+    fn read(words: &mut Words<'_>) -> anyhow::Result<Pair<A, B>> {
+        let first = A::read(words)?;
+        let second = B::read(words)?;
+        Ok(Pair { first, second })
     }
 }
 
