@@ -29,7 +29,8 @@ impl<C: Worded> Case<C> {
         })
     }
 
-    // What the case asks of its cart on a floor.
+    // What the case asks of its cart on a floor. The trials of `label_trials` lend the same fields, of two carts and a floor of their own: a crate for
+    // both would be longer than these lines.
     pub(crate) fn query<'a, F>(&'a self, floor: &'a F) -> Query<'a, F, C, Constraint> {
         Query {
             floor,
@@ -50,9 +51,10 @@ fn read_tariff<C: Worded>(heap: Global, words: &mut Words<'_>) -> anyhow::Result
 
 fn read_cart(words: &mut Words<'_>) -> anyhow::Result<Cart> {
     words.pass("cart")?;
-    let start = words.number::<u8>()?;
-    let goal = words.number::<u8>()?;
-    Ok(Cart { start, goal })
+    Ok(Cart {
+        start: words.number()?,
+        goal: words.number()?,
+    })
 }
 
 fn read_constraint(words: &mut Words<'_>) -> anyhow::Result<Constraint> {

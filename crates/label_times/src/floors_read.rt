@@ -15,10 +15,11 @@ pub(crate) fn read_grid(heap: Global, words: &mut Words<'_>) -> anyhow::Result<G
 }
 
 fn read_lane(words: &mut Words<'_>) -> anyhow::Result<LaneRow> {
-    let from = words.number::<u16>()?;
-    let to = words.number::<u16>()?;
-    let line = words.number::<u16>()?;
-    Ok(LaneRow { from, to, line })
+    Ok(LaneRow {
+        from: words.number()?,
+        to: words.number()?,
+        line: words.number()?,
+    })
 }
 
 // A floor of lanes: the number of its places, the number of its lanes, and then the lanes.
@@ -26,6 +27,7 @@ pub(crate) fn read_lanes(words: &mut Words<'_>) -> anyhow::Result<LaneFloor> {
     let places = words.number::<u16>()?;
     let count = words.number::<u16>()?;
     let mut floor = LaneFloor::empty(places).map_err(Refused::Lanes)?;
+    // each lane is added as it is read, so that the first fault in the case is the one that is told
     for _ in 0..count {
         let lane = read_lane(words)?;
         floor.add_lane(lane).map_err(Refused::Lanes)?;

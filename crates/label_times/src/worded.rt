@@ -8,29 +8,33 @@ pub trait Worded: CostKind {
 
 impl Worded for Total {
     fn read(words: &mut Words<'_>) -> anyhow::Result<Total> {
-        let value = words.number::<u32>()?;
-        Ok(Total { value })
+        Ok(Total {
+            value: words.number()?,
+        })
     }
 }
 
 impl Worded for Worst {
     fn read(words: &mut Words<'_>) -> anyhow::Result<Worst> {
-        let value = words.number::<u16>()?;
-        Ok(Worst { value })
+        Ok(Worst {
+            value: words.number()?,
+        })
     }
 }
 
 impl<A: Worded, B: Worded> Worded for Pair<A, B> {
     fn read(words: &mut Words<'_>) -> anyhow::Result<Pair<A, B>> {
-        let first = A::read(words)?;
-        let second = B::read(words)?;
-        Ok(Pair { first, second })
+        Ok(Pair {
+            first: A::read(words)?,
+            second: B::read(words)?,
+        })
     }
 }
 
 impl Worded for Zones {
     fn read(words: &mut Words<'_>) -> anyhow::Result<Zones> {
-        let bits = words.number::<u64>()?;
-        Ok(Zones { bits })
+        Ok(Zones {
+            bits: words.number()?,
+        })
     }
 }
