@@ -78,6 +78,7 @@ fn print_cost<C: CostKind>(rt: &HostRuntime, cost: C) -> anyhow::Result<()> {
     Ok(())
 }
 
+// Prints as it goes: a `Display` would be a type and an impl round this same loop.
 fn print_walk(rt: &HostRuntime, places: &[u8]) -> anyhow::Result<()> {
     print!(rt; "QP")?;
     for place in places {
