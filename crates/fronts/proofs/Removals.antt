@@ -32,7 +32,7 @@ module _ {C : Type 0} (k : Kind C) (c : C) where
   abbrev pub unbeaten_row : Row C → Bool
   unbeaten_row r = not (k.at_most c r.cost)
 
-  entries-kept : (rs : List (Row C)) → entries (filter unbeaten_row rs) ≡ unbeaten k (entries rs) c
+  pub entries-kept : (rs : List (Row C)) → entries (filter unbeaten_row rs) ≡ unbeaten k (entries rs) c
   entries-kept [] = refl
   entries-kept (r ∷ rs) =
       elim (cases_Bool (k.at_most c r.cost)) [ inl e ↦ rw e (entries-kept rs) | inr e ↦ rw e (ap (λ es. entry_of r ∷ es) (entries-kept rs)) ]
