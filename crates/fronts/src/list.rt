@@ -19,7 +19,8 @@ pub struct FrontList<'a, C> {
     len: usize,
 }
 
-// Each method keeps the slice that is lent, so that its owner knows afterwards what it holds.
+// Each method keeps the slice that is lent, so that its owner knows afterwards what it holds: that is a fact of two states, which
+// no invariant can say, and one equation where it is said.
 impl<'a, C: CostKind> FrontList<'a, C> {
     // No row is in use.
     pub fn new(rows: &'a mut [Row<C>]) -> FrontList<'a, C>

@@ -20,6 +20,7 @@ pub fn count_unbeaten<C: CostKind>(rows: &[Row<C>], len: usize, cost: C) -> usiz
 pub fn remove_beaten<C: CostKind>(rows: &mut [Row<C>], len: usize, cost: C) -> usize
     ensures { Holds (unbeaten C.CostKind.kind (in_use len rows.old) cost) rows.old rows.new result }
 {
+    // A slice that is lent has no `retain`: the rows that stay move up in it, each to a place that was read before.
     let mut n = 0;
     for i in 0..len.min(rows.len()) {
         let row = rows[i];

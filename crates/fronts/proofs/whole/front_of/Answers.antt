@@ -1,9 +1,6 @@
-use Rattle.std.proofs.Common.{◌≡◌, length, refl, ◌∙◌, arith, rules}
-use Rattle.fronts.proofs.Taking.{taking_none, taking_more, taking_outgrown, taking_whole}
+use Rattle.std.proofs.Common.{◌≡◌, length, ◌∙◌, arith, rules}
+use Rattle.fronts.proofs.Taking.{taking_more, taking_outgrown, taking_whole}
 use Rattle.fronts.proofs.whole.front_of.Goals as goal
-
-pub loop-row-init : goal.loop-row-init
-loop-row-init g c = (refl, rw c.new-list.ensures.len (taking_none g.C.CostKind.kind c.args.given.now c.new-list.result.rows.now))
 
 pub loop-row-preserved : goal.loop-row-preserved
 loop-row-preserved g c = (
