@@ -2,7 +2,6 @@ ghost use Rattle.std.specs.Prelude.{map};
 ghost use Rattle.charts.specs.Charts.{Drawn};
 
 use crate::chart::Chart;
-use crate::marks::mark_all;
 use carts::Constrains;
 use floors::Floor;
 
@@ -11,14 +10,8 @@ pub fn draw<F: Floor, B: Constrains>(floor: &F, constraints: &[B], cart: u8, cha
     ensures { Drawn (F.Floor.moves floor.now) (map B.Constrains.constraint constraints.now) cart chart.old chart.new }
 {
     chart.index.fill(floor);
-    let index = &chart.index;
-    mark_all(
-        constraints,
-        cart,
-        floor.places(),
-        &index.begins,
-        &index.moves,
-        &mut chart.shut,
-        &mut chart.closed,
-    );
+    let places = floor.places();
+    for constraint in constraints {
+        chart.mark(constraint.constraint(), cart, places);
+    }
 }

@@ -4,7 +4,6 @@ mod chart;
 mod drawing;
 mod inbound;
 mod index;
-mod marks;
 mod ticks;
 
 pub use chart::Chart;
