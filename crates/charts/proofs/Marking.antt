@@ -1,14 +1,17 @@
 -- Marks in the tables: one constraint, and one constraint more.
 -- Assumes nothing.
-use Rattle.std.proofs.Common.{◌≡◌, ℕ, zero, suc, ◌+◌, ◌*◌, ◌/◌, ◌%◌, ◌<◌, ◌≤◌, Bool, true, false, ◌&&◌, ◌||◌, eqb, ltb, List, [], ◌∷◌, ◌++◌, map, length, get_or, take, set, sym, ap, ◌∙◌, subst, ⊎_elim, arith}
+use Rattle.std.proofs.Common.{◌≡◌, ℕ, zero, suc, ◌+◌, ◌-◌, ◌*◌, ◌/◌, ◌%◌, ◌<◌, ◌≤◌, ◌⊎◌, Bool, true, false, ◌&&◌, ◌||◌, eqb, ltb, List, [], ◌∷◌, ◌++◌, map, length, get_or, take, drop, set, slice_range, sym, ap, ◌∙◌, subst, inl, inr, ⊎_elim, arith, rules}
+use borrow.Rule.Slice.PartMut.{put_mid}
 use Rattle.std.proofs.lemmas.Nat.{mul-add-lt, div-mul-add, mod-mul-add}
-use Rattle.std.proofs.lemmas.List.{map-append, take_more, get_or-set_same, get_or-set_other}
+use Rattle.std.proofs.lemmas.List.{map-append, take_more, get_or-take, get_or-drop, get_or-set_same, get_or-set_other, places}
 use Rattle.std.proofs.lemmas.Bool.{cases_lt, cases_eq, eq-eqb, ne_eqb, lt-ltb, and_from, and_left, and_right}
 use Rattle.rules.specs.Instances.{Move}
-use Rattle.rules.specs.Walks.{Constraint, edge, forbids_move, any_of}
+use Rattle.rules.specs.Walks.{Constraint, forbids_place, forbids_move, any_of}
+use Rattle.charts.specs.declared.chart.Chart.{Chart}
 use Rattle.charts.specs.declared.inbound.Inbound.{Inbound}
+use Rattle.charts.specs.declared.index.Index.{Index}
 use Rattle.charts.specs.declared.ticks.Ticks.{Ticks}
-use Rattle.charts.specs.Charts.{ShutBy, ClosedBy, ClosedAlong, Barred, Rising, SameFrom, leaves}
+use Rattle.charts.specs.Charts.{ShutBy, ClosedBy, ClosedAlong, Barred, Drawn, SameFrom, leaves}
 use Rattle.charts.specs.Indexes.{AllIndexed}
 use Rattle.charts.specs.TickSets.{has, no_ticks}
 use Rattle.charts.proofs.Flags.{or_false, or_true, or_assoc, and_true}
@@ -52,98 +55,130 @@ tick_in tick t low = ⊎_elim
     (cases_eq t tick)
 
 -- one move more
-module _ (moves : List Inbound) (was : List Ticks) (a from tick : ℕ) where
-  module _ (after : List Ticks) (i : ℕ) (le : a ≤ i) (h : ClosedAlong moves was after a i from tick) where
-    pub along_other : (leaves moves i ≡ from → ⊥) → ClosedAlong moves was after a (i + 1) from tick
-    along_other ne = record {
-      inside = λ e t lo hi low. ⊎_elim
+module _ (moves : List Inbound) (was : List Ticks) (from tick : ℕ) where
+  -- the moves below number n are closed, and the others as they were
+  pub record ClosedSoFar (after : List Ticks) (n : ℕ) : Type 0 where
+    pub below : (e t : ℕ) → e < n → t ≤ 63 → has (get_or after e no_ticks) t ≡ (has (get_or was e no_ticks) t || (eqb (leaves moves e) from && eqb t tick))
+    pub behind : (e : ℕ) → n ≤ e → get_or after e no_ticks ≡ get_or was e no_ticks
+
+  module _ (after : List Ticks) (n : ℕ) (h : ClosedSoFar after n) where
+    pub closed_other : (leaves moves n ≡ from → ⊥) → ClosedSoFar after (n + 1)
+    closed_other ne = record {
+      below = λ e t lt low. ⊎_elim
           (λ here. ap (λ s. has s t) (h.behind e (omega arith)) ∙ sym (ap (λ b. has (get_or was e no_ticks) t || b) (and_left (eqb (leaves moves e) from) (eqb t tick) (ne_eqb (leaves moves e) from (λ same. ne (ap (leaves moves) (sym here) ∙ same)))) ∙ or_false (has (get_or was e no_ticks) t)))
-          (λ there. h.inside e t lo (omega arith) low)
-          (cases_eq e i);
-      before = h.before;
+          (λ there. h.below e t (omega arith) low)
+          (cases_eq e n);
       behind = λ e ge. h.behind e (omega arith);
     }
 
-    pub along_more : (r : Ticks) → i < length after → leaves moves i ≡ from → ((t : ℕ) → has r t ≡ (has (get_or after i no_ticks) t || (ltb tick 64 && eqb tick t))) → ClosedAlong moves was (set after i r) a (i + 1) from tick
-    along_more r lt same with_tick = record {
-      inside = λ e t lo hi low. ⊎_elim
-          (λ here. ap (λ k. has (get_or (set after i r) k no_ticks) t) here
-          ∙ ap (λ s. has s t) (get_or-set_same after i r no_ticks lt)
+    pub closed_here : (r : Ticks) → n < length after → leaves moves n ≡ from → ((t : ℕ) → has r t ≡ (has (get_or after n no_ticks) t || (ltb tick 64 && eqb tick t))) → ClosedSoFar (set after n r) (n + 1)
+    closed_here r lt same with_tick = record {
+      below = λ e t below low. ⊎_elim
+          (λ here. ap (λ k. has (get_or (set after n r) k no_ticks) t) here
+          ∙ ap (λ s. has s t) (get_or-set_same after n r no_ticks lt)
           ∙ with_tick t
-          ∙ ap (λ s. has s t || (ltb tick 64 && eqb tick t)) (h.behind i (omega arith))
-          ∙ ap (λ b. has (get_or was i no_ticks) t || b) (tick_in tick t low ∙ sym (ap (λ b. b && eqb t tick) (eq-eqb (leaves moves i) from same)))
+          ∙ ap (λ s. has s t || (ltb tick 64 && eqb tick t)) (h.behind n (omega arith))
+          ∙ ap (λ b. has (get_or was n no_ticks) t || b) (tick_in tick t low ∙ sym (ap (λ b. b && eqb t tick) (eq-eqb (leaves moves n) from same)))
           ∙ ap (λ k. has (get_or was k no_ticks) t || (eqb (leaves moves k) from && eqb t tick)) (sym here))
-          (λ there. ap (λ s. has s t) (get_or-set_other after i e r no_ticks there) ∙ h.inside e t lo (omega arith) low)
-          (cases_eq e i);
-      before = λ e below. get_or-set_other after i e r no_ticks (λ here. omega arith) ∙ h.before e below;
-      behind = λ e ge. get_or-set_other after i e r no_ticks (λ here. omega arith) ∙ h.behind e (omega arith);
+          (λ there. ap (λ s. has s t) (get_or-set_other after n e r no_ticks there) ∙ h.below e t (omega arith) low)
+          (cases_eq e n);
+      behind = λ e ge. get_or-set_other after n e r no_ticks (λ here. omega arith) ∙ h.behind e (omega arith);
     }
 
--- what leaves a table as it was marks nothing
-pub shut_same : (n : ℕ) (was : List Bool) (f : ℕ → ℕ → Bool) → ((t p : ℕ) → t ≤ 64 → p < n → f p t ≡ false) → ShutBy n was was f
-shut_same n was f none t p low lt = sym (ap (λ b. get_or was (t * n + p) false || b) (none t p low lt) ∙ or_false (get_or was (t * n + p) false))
-
-module _ (begins : List ℕ) (moves : List Inbound) (n : ℕ) where
-  -- the moves of a later place begin later
-  rises : Rising begins moves n → (p q : ℕ) → p ≤ q → q ≤ n → get_or begins p 0 ≤ get_or begins q 0
-  rises up p zero le few = let z : p ≡ 0 = omega arith in omega (arith, ap (λ k. get_or begins k 0) z)
-  rises up p (suc q) le few = ⊎_elim
-      (λ e. omega (arith, ap (λ k. get_or begins k 0) e))
-      (λ ne.
-      let on : q + 1 ≡ suc q = omega arith in
-      omega (arith, rises up p q (omega arith) (omega arith), up.up q (omega arith), ap (λ k. get_or begins k 0) on))
-      (cases_eq p (suc q))
-
-  closed_one : (was after : List Ticks) (from to tick : ℕ) → Rising begins moves n → to < n → ClosedAlong moves was after (get_or begins to 0) (get_or begins (to + 1) 0) from tick → ClosedBy begins moves n was after (λ u p t. eqb u from && eqb p to && eqb t tick)
-  closed_one was after from to tick up lt h p e t pl lo hi low = ⊎_elim
-      (λ here.
-      h.inside e t (omega (arith, ap (λ k. get_or begins k 0) here)) (omega (arith, ap (λ k. get_or begins (k + 1) 0) here)) low
-      ∙ ap (λ b. has (get_or was e no_ticks) t || (b && eqb t tick)) (sym (ap (λ b. eqb (leaves moves e) from && b) (eq-eqb p to here) ∙ and_true (eqb (leaves moves e) from))))
-      (λ there.
-      ap (λ s. has s t) (elsewhere there)
-      ∙ sym (ap (λ b. has (get_or was e no_ticks) t || b) (and_left (eqb (leaves moves e) from && eqb p to) (eqb t tick) (and_right (eqb (leaves moves e) from) (eqb p to) (ne_eqb p to there))) ∙ or_false (has (get_or was e no_ticks) t)))
-      (cases_eq p to)
-    where
-      elsewhere : (p ≡ to → ⊥) → get_or after e no_ticks ≡ get_or was e no_ticks
-      elsewhere ne = ⊎_elim
-          (λ below. h.before e (omega (arith, rises up (p + 1) to (omega arith) (omega arith))))
-          (λ above. h.behind e (omega (arith, rises up (to + 1) p (omega arith) (omega arith))))
-          (cases_lt p to)
-
-  pub closed_edge : (was after : List Ticks) (cart c from to tick : ℕ) → Rising begins moves n → c ≡ cart → to < n → ClosedAlong moves was after (get_or begins to 0) (get_or begins (to + 1) 0) from tick →
-      ClosedBy begins moves n was after (λ u p t. forbids_move cart u p t (edge c from to tick))
-  closed_edge was after cart c from to tick up own lt h =
-      subst (λ b. ClosedBy begins moves n was after (λ u p t. b && eqb u from && eqb p to && eqb t tick)) (sym (eq-eqb cart c (sym own))) (closed_one was after from to tick up lt h)
-
-  -- and no move behind all
-  pub closed_others : (was after : List Ticks) (from to tick : ℕ) → Rising begins moves n → to < n → ClosedAlong moves was after (get_or begins to 0) (get_or begins (to + 1) 0) from tick → SameFrom no_ticks (get_or begins n 0) was after
-  closed_others was after from to tick up lt h i past = h.behind i (omega (arith, rises up (to + 1) n (omega arith) (omega arith)))
-
--- an index has the moves of the places one after another
-pub indexed_rising : (all : List (List Move)) (begins : List ℕ) (moves : List Inbound) (n : ℕ) → n ≡ length all → n ≤ 128 → length begins ≡ 129 → length moves ≡ 1024 → AllIndexed begins moves all → Rising begins moves n
-indexed_rising all begins moves n e few begins_long moves_long h = record {
-  few = few;
-  begins_long = begins_long;
-  moves_long = moves_long;
-  up = λ p lt. (h p (omega arith)).up;
-  within = λ p lt. omega (arith, (h p (omega arith)).within);
+-- one cell
+pub barred_cell : (n : ℕ) (was after : Chart) (place tick : ℕ) → length was.shut ≡ 8320 → n ≤ 128 → place < n → tick ≤ 64 → after.index ≡ was.index → after.shut ≡ set was.shut (tick * n + place) true → after.closed ≡ was.closed → Barred n was after (λ p t. eqb p place && eqb t tick) (λ u p t. false)
+barred_cell n was after place tick long few lt low index shut closed = record {
+  same_index = index;
+  cells = subst (λ s. ShutBy n was.shut s (λ p t. eqb p place && eqb t tick)) (sym shut) (shut_one n was.shut place tick long few lt low);
+  departures = λ p e t in_floor lo hi under. ap (λ s. has (get_or s e no_ticks) t) closed ∙ sym (or_false (has (get_or was.closed e no_ticks) t));
+  other_cells = subst (SameFrom false (65 * n) was.shut) (sym shut) (shut_others n was.shut place tick lt low);
+  other_moves = λ i past. ap (λ s. get_or s i no_ticks) closed;
 }
 
--- one test more
-module _ (begins : List ℕ) (moves : List Inbound) (n : ℕ) (shut : List Bool) (closed : List Ticks) where
-  pub barred_more : (shut' shut'' : List Bool) (closed' closed'' : List Ticks) (f f' f'' : ℕ → ℕ → Bool) (g g' g'' : ℕ → ℕ → ℕ → Bool) → ((p t : ℕ) → f'' p t ≡ (f p t || f' p t)) → ((u p t : ℕ) → g'' u p t ≡ (g u p t || g' u p t)) →
-      Barred begins moves n shut shut' closed closed' f g → Barred begins moves n shut' shut'' closed' closed'' f' g' → Barred begins moves n shut shut'' closed closed'' f'' g''
-  barred_more shut' shut'' closed' closed'' f f' f'' g g' g'' places departures first second = record {
-    cells = λ t p low lt.
-        second.cells t p low lt ∙ ap (λ b. b || f' p t) (first.cells t p low lt) ∙ or_assoc (get_or shut (t * n + p) false) (f p t) (f' p t) ∙ ap (λ b. get_or shut (t * n + p) false || b) (sym (places p t));
-    departures = λ p e t lt lo hi low.
-        second.departures p e t lt lo hi low
-        ∙ ap (λ b. b || g' (leaves moves e) p t) (first.departures p e t lt lo hi low)
-        ∙ or_assoc (has (get_or closed e no_ticks) t) (g (leaves moves e) p t) (g' (leaves moves e) p t)
-        ∙ ap (λ b. has (get_or closed e no_ticks) t || b) (sym (departures (leaves moves e) p t));
-    other_cells = λ i past. second.other_cells i past ∙ first.other_cells i past;
-    other_moves = λ i past. second.other_moves i past ∙ first.other_moves i past;
+-- the moves of a later place begin later
+rises : (i : Index) (p q : ℕ) → p ≤ q → q ≤ 128 → get_or i.begins p 0 ≤ get_or i.begins q 0
+rises i p zero le few = let z : p ≡ 0 = omega arith in omega (arith, ap (λ k. get_or i.begins k 0) z)
+rises i p (suc q) le few = ⊎_elim
+    (λ e. omega (arith, ap (λ k. get_or i.begins k 0) e))
+    (λ ne.
+    let on : q + 1 ≡ suc q = omega arith in
+    omega (arith, rises i p q (omega arith) (omega arith), i.rising q (omega arith), ap (λ k. get_or i.begins k 0) on))
+    (cases_eq p (suc q))
+
+-- the moves of one place, of which ys says what is closed now
+module _ (n : ℕ) (was : Chart) (from to tick : ℕ) (few : n ≤ 128) (lt : to < n) (long : length was.closed ≡ 1024) where
+  begin : ℕ
+  begin = get_or was.index.begins to 0
+
+  end : ℕ
+  end = get_or was.index.begins (to + 1) 0
+
+  pub barred_moves : (after : Chart) (ys : List Ticks) → after.index ≡ was.index → after.shut ≡ was.shut → length ys ≡ get_or was.index.begins (to + 1) 0 - get_or was.index.begins to 0
+      → after.closed ≡ put_mid (get_or was.index.begins to 0) (get_or was.index.begins (to + 1) 0 - get_or was.index.begins to 0) was.closed ys
+      → ClosedAlong (slice_range was.index.moves (get_or was.index.begins to 0) (get_or was.index.begins (to + 1) 0)) (slice_range was.closed (get_or was.index.begins to 0) (get_or was.index.begins (to + 1) 0)) ys from tick
+      → Barred n was after (λ p t. false) (λ u p t. (eqb u from && eqb p to) && eqb t tick)
+  unfolding begin end
+  barred_moves after ys index shut size closed h = record {
+    same_index = index;
+    cells = λ t p low in_floor. ap (λ s. get_or s (t * n + p) false) shut ∙ sym (or_false (get_or was.shut (t * n + p) false));
+    departures = λ p e t in_floor lo hi low. ⊎_elim
+        (λ here.
+        let lo' : begin ≤ e = omega (arith, ap (λ k. get_or was.index.begins k 0) here) in
+        let hi' : e < end = omega (arith, ap (λ k. get_or was.index.begins (k + 1) 0) here) in
+        let at : begin + (e - begin) ≡ e = omega arith in
+        let none : Inbound = record { from = 0; line = 0 } in
+        let step : leaves (slice_range was.index.moves begin end) (e - begin) ≡ leaves was.index.moves e =
+        ap (λ (m : Inbound). m.from) (get_or-take (end - begin) (drop begin was.index.moves) (e - begin) none (omega arith) ∙ get_or-drop begin was.index.moves (e - begin) none ∙ ap (λ k. get_or was.index.moves k none) at) in
+        let before : get_or (slice_range was.closed begin end) (e - begin) no_ticks ≡ get_or was.closed e no_ticks =
+        get_or-take (end - begin) (drop begin was.closed) (e - begin) _ (omega arith) ∙ get_or-drop begin was.closed (e - begin) _ ∙ ap (λ k. get_or was.closed k no_ticks) at in
+        ap (λ s. has (get_or s e no_ticks) t) closed
+        ∙ ap (λ s. has s t) (inside e lo' hi')
+        ∙ h (e - begin) t (omega (arith, in_moves e hi')) low
+        ∙ ap (λ s. has s t || (eqb (leaves (slice_range was.index.moves begin end) (e - begin)) from && eqb t tick)) before
+        ∙ ap (λ u. has (get_or was.closed e no_ticks) t || (eqb u from && eqb t tick)) step
+        ∙ ap (λ b. has (get_or was.closed e no_ticks) t || (b && eqb t tick)) (sym (ap (λ b. eqb (leaves was.index.moves e) from && b) (eq-eqb p to here) ∙ and_true (eqb (leaves was.index.moves e) from))))
+        (λ there.
+        ap (λ s. has (get_or s e no_ticks) t) closed
+        ∙ ap (λ s. has s t) (elsewhere p e there in_floor lo hi)
+        ∙ sym (ap (λ b. has (get_or was.closed e no_ticks) t || b) (and_left (eqb (leaves was.index.moves e) from && eqb p to) (eqb t tick) (and_right (eqb (leaves was.index.moves e) from) (eqb p to) (ne_eqb p to there))) ∙ or_false (has (get_or was.closed e no_ticks) t)))
+        (cases_eq p to);
+    other_cells = λ i past. ap (λ s. get_or s i false) shut;
+    other_moves = λ i past. ap (λ s. get_or s i no_ticks) closed ∙ outside i (inr (omega (arith, rises was.index (to + 1) n (omega arith) few)));
   }
+    where
+      ordered : (get_or was.index.begins to 0 ≤ get_or was.index.begins (to + 1) 0) × (get_or was.index.begins (to + 1) 0 ≤ 1024)
+      ordered = (was.index.rising to (omega arith), was.index.within (to + 1))
+
+      outside : (i : ℕ) → ((i < get_or was.index.begins to 0) ⊎ (get_or was.index.begins (to + 1) 0 ≤ i)) → get_or (put_mid (get_or was.index.begins to 0) (get_or was.index.begins (to + 1) 0 - get_or was.index.begins to 0) was.closed ys) i no_ticks ≡ get_or was.closed i no_ticks
+      outside i h = search (rules, places)
+
+      inside : (e : ℕ) → get_or was.index.begins to 0 ≤ e → e < get_or was.index.begins (to + 1) 0 → get_or (put_mid (get_or was.index.begins to 0) (get_or was.index.begins (to + 1) 0 - get_or was.index.begins to 0) was.closed ys) e no_ticks ≡ get_or ys (e - get_or was.index.begins to 0) no_ticks
+      inside e lo hi = search (rules, places)
+
+      in_moves : (e : ℕ) → e < get_or was.index.begins (to + 1) 0 → length (slice_range was.index.moves (get_or was.index.begins to 0) (get_or was.index.begins (to + 1) 0)) ≡ get_or was.index.begins (to + 1) 0 - get_or was.index.begins to 0
+      in_moves e hi = search (rules, places)
+
+      elsewhere : (p e : ℕ) → (p ≡ to → ⊥) → p < n → get_or was.index.begins p 0 ≤ e → e < get_or was.index.begins (p + 1) 0 → get_or (put_mid (get_or was.index.begins to 0) (get_or was.index.begins (to + 1) 0 - get_or was.index.begins to 0) was.closed ys) e no_ticks ≡ get_or was.closed e no_ticks
+      elsewhere p e ne in_floor lo hi = outside e (⊎_elim
+          (λ below. inl (omega (arith, rises was.index (p + 1) to (omega arith) (omega arith))))
+          (λ above. inr (omega (arith, rises was.index (to + 1) p (omega arith) (omega arith))))
+          (cases_lt p to))
+
+-- one test more
+pub barred_more : (n : ℕ) (was middle after : Chart) (f f' f'' : ℕ → ℕ → Bool) (g g' g'' : ℕ → ℕ → ℕ → Bool) → ((p t : ℕ) → f'' p t ≡ (f p t || f' p t)) → ((u p t : ℕ) → g'' u p t ≡ (g u p t || g' u p t)) →
+    Barred n was middle f g → Barred n middle after f' g' → Barred n was after f'' g''
+barred_more n was middle after f f' f'' g g' g'' places departures first second = record {
+  same_index = second.same_index ∙ first.same_index;
+  cells = λ t p low lt.
+      second.cells t p low lt ∙ ap (λ b. b || f' p t) (first.cells t p low lt) ∙ or_assoc (get_or was.shut (t * n + p) false) (f p t) (f' p t) ∙ ap (λ b. get_or was.shut (t * n + p) false || b) (sym (places p t));
+  departures = λ p e t lt lo hi low.
+      subst (λ (i : Index). get_or i.begins p 0 ≤ e → e < get_or i.begins (p + 1) 0 → has (get_or after.closed e no_ticks) t ≡ (has (get_or middle.closed e no_ticks) t || g' (leaves i.moves e) p t)) first.same_index (λ lo' hi'. second.departures p e t lt lo' hi' low) lo hi
+      ∙ ap (λ b. b || g' (leaves was.index.moves e) p t) (first.departures p e t lt lo hi low)
+      ∙ or_assoc (has (get_or was.closed e no_ticks) t) (g (leaves was.index.moves e) p t) (g' (leaves was.index.moves e) p t)
+      ∙ ap (λ b. has (get_or was.closed e no_ticks) t || b) (sym (departures (leaves was.index.moves e) p t));
+  other_cells = λ i past. second.other_cells i past ∙ first.other_cells i past;
+  other_moves = λ i past. subst (λ (k : Index). get_or k.begins n 0 ≤ i → get_or after.closed i no_ticks ≡ get_or middle.closed i no_ticks) first.same_index (second.other_moves i) past ∙ first.other_moves i past;
+}
 
 -- one constraint more
 any_of_push : (f : Constraint → Bool) (xs : List Constraint) (x : Constraint) → any_of f (xs ++ x ∷ []) ≡ (any_of f xs || f x)
@@ -153,3 +188,20 @@ any_of_push f (y ∷ xs) x = ap (λ b. f y || b) (any_of_push f xs x) ∙ sym (o
 pub any_of_more : {B : Type 0} (rule : B → Constraint) (bs : List B) (i : ℕ) (b : B) → i < length bs → (f : Constraint → Bool) → any_of f (map rule (take (i + 1) bs)) ≡ (any_of f (map rule (take i bs)) || f (rule (get_or bs i b)))
 any_of_more rule bs i b lt f =
     ap (λ l. any_of f (map rule l)) (take_more bs i b lt) ∙ ap (any_of f) (map-append rule (take i bs) (get_or bs i b ∷ [])) ∙ any_of_push f (map rule (take i bs)) (rule (get_or bs i b))
+
+-- what was marked in a chart with the floor's index is drawn
+pub barred_drawn : (all : List (List Move)) (constraints : List Constraint) (cart n : ℕ) (was after : Chart) (index : Index) → n ≡ length all → AllIndexed index.begins index.moves all →
+    Barred n (record { index = index; shut = was.shut; closed = was.closed }) after (λ p t. any_of (forbids_place cart p t) constraints) (λ u p t. any_of (forbids_move cart u p t) constraints) → Drawn all constraints cart was after
+barred_drawn all constraints cart n was after index e indexed h =
+    let f : ℕ → ℕ → Bool = λ p t. any_of (forbids_place cart p t) constraints in
+    let g : ℕ → ℕ → ℕ → Bool = λ u p t. any_of (forbids_move cart u p t) constraints in
+    let filled : Chart = record { index = index; shut = was.shut; closed = was.closed } in
+    let b : Barred (length all) filled after f g = subst (λ k. Barred k filled after f g) e h in
+    let at = sym h.same_index in
+    record {
+      indexed = subst (λ (i : Index). AllIndexed i.begins i.moves all) at indexed;
+      shut = b.cells;
+      closed = subst (λ (i : Index). ClosedBy i.begins i.moves (length all) was.closed after.closed g) at b.departures;
+      other_cells = b.other_cells;
+      other_moves = subst (λ (i : Index). SameFrom no_ticks (get_or i.begins (length all) 0) was.closed after.closed) at b.other_moves;
+    }

@@ -26,26 +26,18 @@ ClosedBy begins moves places was after g =
 abbrev pub SameFrom : {X : Type 0} → X → ℕ → (was after : List X) → Type 0
 SameFrom none n was after = (i : ℕ) → n ≤ i → slice_index_or after i none ≡ slice_index_or was i none
 
--- the moves from number a to b that leave from a place are closed at one tick more, and all others as they were
-pub record ClosedAlong (moves : List Inbound) (was after : List Ticks) (a b from tick : ℕ) : Type 0 where
-  pub inside : (e t : ℕ) → a ≤ e → e < b → t ≤ 63 → has (slice_index_or after e no_ticks) t ≡ (has (slice_index_or was e no_ticks) t || (leaves moves e == from && t == tick))
-  pub before : (e : ℕ) → e < a → slice_index_or after e no_ticks ≡ slice_index_or was e no_ticks
-  pub behind : (e : ℕ) → b ≤ e → slice_index_or after e no_ticks ≡ slice_index_or was e no_ticks
+-- those of the moves that leave from a place are closed at one tick more, and all others as they were
+abbrev pub ClosedAlong : (moves : List Inbound) (was after : List Ticks) (from tick : ℕ) → Type 0
+ClosedAlong moves was after from tick =
+    (e t : ℕ) → e < length moves → t ≤ 63 → has (slice_index_or after e no_ticks) t ≡ (has (slice_index_or was e no_ticks) t || (leaves moves e == from && t == tick))
 
--- the moves of the places stand one after another
-pub record Rising (begins : List ℕ) (moves : List Inbound) (places : ℕ) : Type 0 where
-  pub few : places ≤ 128
-  pub begins_long : length begins ≡ 129
-  pub moves_long : length moves ≡ 1024
-  pub up : (p : ℕ) → p < places → slice_index begins p ≤ slice_index begins (p + 1)
-  pub within : (p : ℕ) → p < places → slice_index begins (p + 1) ≤ 1024
-
--- the tables hold besides what they held what f says of places and g of moves, and nothing else
-pub record Barred (begins : List ℕ) (moves : List Inbound) (places : ℕ) (shut shut' : List Bool) (closed closed' : List Ticks) (f : ℕ → ℕ → Bool) (g : ℕ → ℕ → ℕ → Bool) : Type 0 where
-  pub cells : ShutBy places shut shut' f
-  pub departures : ClosedBy begins moves places closed closed' g
-  pub other_cells : SameFrom false (65 * places) shut shut'
-  pub other_moves : SameFrom no_ticks (slice_index begins places) closed closed'
+-- the chart holds besides what it held what f says of places and g of moves, and nothing else
+pub record Barred (places : ℕ) (was after : Chart) (f : ℕ → ℕ → Bool) (g : ℕ → ℕ → ℕ → Bool) : Type 0 where
+  pub same_index : after.index ≡ was.index
+  pub cells : ShutBy places was.shut after.shut f
+  pub departures : ClosedBy was.index.begins was.index.moves places was.closed after.closed g
+  pub other_cells : SameFrom false (65 * places) was.shut after.shut
+  pub other_moves : SameFrom no_ticks (slice_index was.index.begins places) was.closed after.closed
 
 -- nothing is shut, and nothing is closed
 pub record Blank (chart : Chart) : Type 0 where
@@ -54,8 +46,8 @@ pub record Blank (chart : Chart) : Type 0 where
 
 -- the moves of the floor by the place reached, and besides what was shut and closed before what the constraints forbid the cart
 pub record Drawn (moves : List (List Move)) (constraints : List Constraint) (cart : ℕ) (was after : Chart) : Type 0 where
-  pub indexed : AllIndexed after.begins after.moves moves
+  pub indexed : AllIndexed after.index.begins after.index.moves moves
   pub shut : ShutBy (length moves) was.shut after.shut (λ p t. any_of (forbids_place cart p t) constraints)
-  pub closed : ClosedBy after.begins after.moves (length moves) was.closed after.closed (λ u p t. any_of (forbids_move cart u p t) constraints)
+  pub closed : ClosedBy after.index.begins after.index.moves (length moves) was.closed after.closed (λ u p t. any_of (forbids_move cart u p t) constraints)
   pub other_cells : SameFrom false (65 * length moves) was.shut after.shut
-  pub other_moves : SameFrom no_ticks (slice_index after.begins (length moves)) was.closed after.closed
+  pub other_moves : SameFrom no_ticks (slice_index after.index.begins (length moves)) was.closed after.closed

@@ -1,28 +1,34 @@
-use Rattle.std.proofs.Common.{◌≡◌, map, length, subst, arith, rules}
-use Rattle.rules.specs.Walks.{forbids_place, forbids_move, any_of}
+use Rattle.std.proofs.Common.{◌≡◌, ℕ, ◌+◌, Bool, ◌||◌, map, take, sym, ap, ◌∙◌, subst}
+use Rattle.std.proofs.lemmas.List.{take_all}
+use Rattle.rules.specs.Walks.{Constraint, forbids_place, forbids_move, any_of}
+use Rattle.carts.specs.Carts.{constraint_of}
+use Rattle.charts.specs.declared.chart.Chart.{Chart}
 use Rattle.charts.specs.Charts.{Barred}
-use Rattle.charts.proofs.Marking.{indexed_rising}
+use Rattle.charts.proofs.Marking.{any_of_more, barred_more, barred_drawn}
 use Rattle.charts.proofs.drawing.draw.Goals as goal
 
-pub mark_all-requires : goal.mark_all-requires
-mark_all-requires g c =
-    let floor = c.args.floor.now in
-    let begins = c.fill_index.new.begins in
-    let moves = c.fill_index.new.moves in
-    let begins_long : length begins ≡ 129 = search rules in
-    let moves_long : length moves ≡ 1024 = search rules in
-    record {
-      index = indexed_rising (g.F.Floor.moves floor) begins moves c.places.result c.places.ensures (omega (arith, c.places.ensures, (g.met.F.Floor.bounds floor).few_places)) begins_long moves_long c.fill_index.ensures;
-      cells = search rules;
-      moves = search rules;
-    }
+pub loop-constraint-preserved : goal.loop-constraint-preserved
+loop-constraint-preserved g c =
+    let rule = g.B.Constrains.constraint in
+    let cs = c.args.constraints.now in
+    let i = c.loop-constraint.constraint-index in
+    let seen = λ (j : ℕ). map rule (take j cs) in
+    let here = constraint_of c.constraint.result in
+    let cart = c.args.cart in
+    let step : (f : Constraint → Bool) → any_of f (seen (i + 1)) ≡ (any_of f (seen i) || f here) = λ f.
+    any_of_more rule cs i c.constraint-item.result c.loop-constraint-test.true f ∙ ap (λ x. any_of f (seen i) || f x) (sym (c.constraint.ensures ∙ ap rule c.constraint-item.is))
+    in
+    let filled : Chart = record { index = c.fill.new.self; shut = c.args.chart.now.shut; closed = c.args.chart.now.closed } in
+    barred_more c.places-places.result filled c.loop-constraint.chart c.mark.new.self
+    (λ p t. any_of (forbids_place cart p t) (seen i)) (λ p t. forbids_place cart p t here) (λ p t. any_of (forbids_place cart p t) (seen (i + 1)))
+    (λ u p t. any_of (forbids_move cart u p t) (seen i)) (λ u p t. forbids_move cart u p t here) (λ u p t. any_of (forbids_move cart u p t) (seen (i + 1)))
+    (λ p t. step (forbids_place cart p t)) (λ u p t. step (forbids_move cart u p t)) c.loop-constraint.invariant c.mark.ensures
 
 pub returns : goal.returns
 returns g c =
-    let chart = c.args.chart.now in
-    let begins = c.fill_index.new.begins in
-    let moves = c.fill_index.new.moves in
+    let rule = g.B.Constrains.constraint in
+    let cs = c.args.constraints.now in
     let cart = c.args.cart in
-    let cs = map g.B.Constrains.constraint c.args.constraints.now in
-    let barred = subst (λ n. Barred begins moves n chart.shut c.mark_all.new.shut chart.closed c.mark_all.new.closed (λ p t. any_of (forbids_place cart p t) cs) (λ u p t. any_of (forbids_move cart u p t) cs)) c.places.ensures c.mark_all.ensures in
-    record { indexed = c.fill_index.ensures; shut = barred.cells; closed = barred.departures; other_cells = barred.other_cells; other_moves = barred.other_moves }
+    let filled : Chart = record { index = c.fill.new.self; shut = c.args.chart.now.shut; closed = c.args.chart.now.closed } in
+    barred_drawn (g.F.Floor.moves c.args.floor.now) (map rule cs) cart c.places-places.result c.args.chart.now c.loop-constraint.chart c.fill.new.self c.places-places.ensures c.fill.ensures.indexed
+    (subst (λ l. Barred c.places-places.result filled c.loop-constraint.chart (λ p t. any_of (forbids_place cart p t) (map rule l)) (λ u p t. any_of (forbids_move cart u p t) (map rule l))) (take_all c.loop-constraint.constraint-index cs c.loop-constraint-test.false) c.loop-constraint.invariant)
