@@ -26,13 +26,15 @@ fn fill_front<F: Floor, C: CostKind, B: Constrains>(
     rows: &mut [LabelRow<C>],
     starts: &[u16],
 ) -> Option<usize>
-    requires ready { Ready (asked F.Floor.moves C.CostKind.kind B.Constrains.constraint query.now) cell rows.old starts.now cell.start }
+    requires within { cell.start ≤ length rows.old }
+    requires few { length rows.old ≤ 65535 }
+    requires ready { Ready (asked F.Floor.moves C.CostKind.kind B.Constrains.constraint query.now) cell (take cell.start rows.old) starts.now }
     requires place { cell.place < place_count (asked F.Floor.moves C.CostKind.kind B.Constrains.constraint query.now) }
     requires indexed { Indexed index.now.begins index.now.moves (F.Floor.moves query.now.floor.now) cell.place }
     ensures { Grown rows.old rows.new cell.start (front_of C.CostKind.kind (reaching (asked F.Floor.moves C.CostKind.kind B.Constrains.constraint query.now) cell.tick cell.place)) result }
 {
     let mut end = cell.start;
-    while let Some(row) = next_label(query, index, cell, rows, starts, end) {
+    while let Some(row) = next_label(query, index, cell, &rows[..end], starts) {
         if end == rows.len() {
             return None;
         }

@@ -16,6 +16,7 @@ mod query;
 mod refusal;
 mod row;
 mod rows;
+mod so_far;
 mod tables;
 mod walks;
 
