@@ -26,10 +26,8 @@ module _ {C : Type 0} (a : Asked C) where
   abbrev pub by_one : Cell → Inbound → List (Label C)
   by_one cell m = cond (may_take a m.from cell.place cell.tick) (extended_by a.inst.kind (price a.inst m.line) cell.place (slice_index_or (row_of a cell.tick) m.from [])) []
 
-  -- while a cell is filled, the rows so far hold the labels of the tick before, and the cell's own from its start on
+  -- while a cell is filled, the rows so far hold the labels of the tick before
   pub record Ready (cell : Cell) (rows : List (LabelRow C)) (starts : List ℕ) : Type 0 where
-    pub from : cell.start ≤ length rows
-    pub few : length rows ≤ 65535
     pub table : cell.base + place_count a < length starts
     pub runs : Runs starts cell.base (shown rows) (row_of a cell.tick) (place_count a)
     pub barred : cell.barred ≡ barred_to a cell.place cell.tick

@@ -1,3 +1,5 @@
+ghost use Rattle.std.specs.Prelude.{◌≡◌};
+
 // A move, as the place that it reaches sees it: the place that it leaves, and the tariff line that it pays.
 #[derive(Clone, Copy)]
 pub struct Inbound {
@@ -17,4 +19,15 @@ pub struct Link {
 pub struct Index {
     pub begins: [u16; 129],
     pub moves: [Inbound; 1024],
+}
+
+impl Index {
+    ghost use Rattle.labels.specs.Indexes.{held_for};
+
+    // The moves that reach a place.
+    pub fn moves_to(&self, place: u8) -> &[Inbound]
+        ensures { result.now ≡ held_for self.now place }
+    {
+        &self.moves[self.begins[place as usize] as usize..self.begins[place as usize + 1] as usize]
+    }
 }

@@ -2,11 +2,11 @@ use Rattle.std.proofs.Common.{◌≡◌, suc, ◌-◌, true, false, length, take
 use Rattle.labels.specs.Cells.{Grown}
 use Rattle.labels.specs.Queries.{asked, row_of}
 use Rattle.labels.proofs.Tabling.{later_cell, runs_before, table_before, grown_none}
-use Rattle.labels.proofs.cells.later_cell.Goals as goal
+use Rattle.labels.proofs.search.Search.later_cell.Goals as goal
 
 pub returns-then-not-may_be : goal.returns-then-not-may_be
 returns-then-not-may_be g c =
-    let a = asked g.F.Floor.moves g.C.CostKind.kind g.B.Constrains.constraint c.args.query.now in
+    let a = asked g.F.Floor.moves g.C.CostKind.kind g.B.Constrains.constraint c.args.self.now.query.now in
     let s : c.args.layer.tick ≡ suc (c.args.layer.tick - 1) = omega (arith, c.requires.later) in
     grown_none c.args.rows.now c.args.n _ c.requires.held.within (later_cell a c.args.layer.tick (c.args.layer.tick - 1) c.args.place false s c.requires.place c.if-not-may_be.ensures)
 
@@ -17,7 +17,7 @@ is_barred-barred-requires g c =
 
 pub fill_front-requires : goal.fill_front-requires
 fill_front-requires g c =
-    let a = asked g.F.Floor.moves g.C.CostKind.kind g.B.Constrains.constraint c.args.query.now in
+    let a = asked g.F.Floor.moves g.C.CostKind.kind g.B.Constrains.constraint c.args.self.now.query.now in
     let layer = c.args.layer in
     let t' = layer.tick - 1 in
     let s : layer.tick ≡ suc t' = omega (arith, c.requires.later) in
@@ -37,7 +37,7 @@ fill_front-requires g c =
 
 pub returns : goal.returns
 returns g c =
-    let a = asked g.F.Floor.moves g.C.CostKind.kind g.B.Constrains.constraint c.args.query.now in
+    let a = asked g.F.Floor.moves g.C.CostKind.kind g.B.Constrains.constraint c.args.self.now.query.now in
     let s : c.args.layer.tick ≡ suc (c.args.layer.tick - 1) = omega (arith, c.requires.later) in
     let cell = later_cell a c.args.layer.tick (c.args.layer.tick - 1) c.args.place true s c.requires.place c.if-not-may_be.ensures in
     subst (λ l. Grown c.args.rows.now c.fill_front.new.rows c.args.n l c.fill_front.result) cell c.fill_front.ensures
