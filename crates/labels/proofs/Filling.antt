@@ -1,6 +1,6 @@
 -- Filling a cell, label by label.
 -- Assumes nothing.
-use Rattle.std.proofs.Common.{◌≡◌, ℕ, ◌+◌, ◌-◌, ◌<◌, ◌≤◌, List, [], ◌∷◌, ◌++◌, length, get_or, take, drop, set, Some, None, Option, sym, ap, ◌∙◌, subst, inl, inr, arith}
+use Rattle.std.proofs.Common.{◌≡◌, ℕ, ◌+◌, ◌-◌, ◌<◌, ◌≤◌, List, [], ◌∷◌, ◌++◌, length, get_or, take, drop, Some, None, Option, sym, ap, ◌∙◌, subst, inl, inr, arith}
 use Rattle.std.specs.List.{slice_get}
 use Rattle.std.proofs.lemmas.Option.{slice_get-get_or, slice_get_past}
 use Rattle.std.proofs.lemmas.Bool.{cases_lt}
@@ -11,13 +11,13 @@ use Rattle.rules.specs.Offers.{Label}
 use Rattle.labels.specs.declared.cell.Cell.{Cell}
 use Rattle.labels.specs.declared.row.LabelRow.{LabelRow}
 use Rattle.labels.specs.Cells.{Ready, Selects, Grown}
-use Rattle.labels.specs.Parts.{Part}
+use Rattle.charts.specs.Parts.{Part}
 use Rattle.labels.specs.Picks.{picked, last_cost, passed_over}
 use Rattle.labels.specs.Queries.{Asked, row_of}
 use Rattle.labels.specs.Rows.{shown, shown_row, shown_best}
-use Rattle.labels.proofs.Parts.{part_more}
+use Rattle.charts.proofs.Parts.{part_more}
 use Rattle.labels.proofs.Picking.{picks_next}
-use Rattle.labels.proofs.Showing.{shown_push, length-shown}
+use Rattle.labels.proofs.Showing.{length-shown}
 
 module _ {X : Type 0} (xs : List X) (j : ℕ) where
   -- what stands at j, and that nothing does

@@ -1,17 +1,17 @@
 -- Selecting among the candidates of a cell, move by move.
 -- Assumes nothing.
-use Rattle.std.proofs.Common.{◌≡◌, ℕ, ◌+◌, ◌<◌, ◌≤◌, Bool, eqb, List, [], ◌∷◌, ◌++◌, map, length, get_or, take, drop, Option, sym, refl, ap, ◌∙◌, inl, inr, arith}
+use Rattle.std.proofs.Common.{◌≡◌, ℕ, ◌+◌, ◌<◌, ◌≤◌, Bool, eqb, List, [], ◌∷◌, ◌++◌, map, length, get_or, drop, Option, sym, refl, ap, ◌∙◌, inl, inr}
 use Rattle.std.specs.List.{range_with_len}
-use Rattle.std.proofs.lemmas.List.{append_assoc, at_drop_more, at_drop_all, get_or-take, length-take-le}
+use Rattle.std.proofs.lemmas.List.{append_assoc, at_drop_more, at_drop_all}
 use Rattle.std.proofs.lemmas.Bool.{cases_Bool, eqb-true}
 use Rattle.rules.specs.Kinds.{Kind}
 use Rattle.rules.specs.Fronts.{Entry}
 use Rattle.rules.specs.Instances.{Move, moves_of}
 use Rattle.rules.specs.Offers.{Label, by_moves, joined_lists}
 use Rattle.labels.specs.declared.cell.Cell.{Cell}
-use Rattle.labels.specs.declared.inbound.Inbound.{Inbound}
+use Rattle.charts.specs.declared.inbound.Inbound.{Inbound}
 use Rattle.labels.specs.Cells.{by_one}
-use Rattle.labels.specs.Indexes.{into, inbound_of}
+use Rattle.charts.specs.Indexes.{into, inbound_of}
 use Rattle.labels.specs.Picks.{picked, better}
 use Rattle.labels.specs.Queries.{Asked, row_of, place_count, reaching}
 

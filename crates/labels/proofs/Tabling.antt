@@ -13,12 +13,12 @@ use Rattle.rules.specs.Offers.{Label, joined_lists, total_length}
 use Rattle.labels.specs.declared.layer.Layer.{Layer}
 use Rattle.labels.specs.declared.row.LabelRow.{LabelRow}
 use Rattle.labels.specs.Cells.{Runs, Grown}
-use Rattle.labels.specs.Parts.{Part}
+use Rattle.charts.specs.Parts.{Part}
 use Rattle.labels.specs.Queries.{Asked, row_of, place_count, may_be_at, reaching, label_total}
 use Rattle.labels.specs.Rows.{shown, shown_row, trace_at}
 use Rattle.labels.specs.Seeking.{busy_at}
 use Rattle.labels.specs.Tables.{Hold, Filled, Laid, cells_before, all_cells}
-use Rattle.labels.proofs.Parts.{joined_push, total_append, length_joined, total_more, total_part, marked_none, marked_more, part_at}
+use Rattle.charts.proofs.Parts.{joined_push, total_append, length_joined, total_more, total_part, marked_none, marked_more, part_at}
 use Rattle.labels.proofs.Showing.{shown_push, length-shown}
 
 -- a cart's places, as the code reads them

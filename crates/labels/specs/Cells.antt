@@ -5,9 +5,9 @@ use Rattle.rules.specs.Kinds.{Kind}
 use Rattle.rules.specs.Instances.{price}
 use Rattle.rules.specs.Offers.{Label}
 use Rattle.labels.specs.declared.cell.Cell.{Cell}
-use Rattle.labels.specs.declared.inbound.Inbound.{Inbound}
+use Rattle.charts.specs.declared.inbound.Inbound.{Inbound}
 use Rattle.labels.specs.declared.row.LabelRow.{LabelRow}
-use Rattle.labels.specs.Parts.{Part}
+use Rattle.charts.specs.Parts.{Part}
 use Rattle.labels.specs.Picks.{picked, passed_over}
 use Rattle.labels.specs.Queries.{Asked, row_of, place_count, may_take}
 use Rattle.labels.specs.Rows.{shown, shown_best, extended_by}

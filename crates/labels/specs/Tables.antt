@@ -4,7 +4,7 @@ use Rattle.std.specs.Prelude.{◌≡◌, ℕ, zero, suc, ◌<◌, ◌≤◌, Lis
 use Rattle.rules.specs.Offers.{Label, joined_lists, total_length}
 use Rattle.labels.specs.declared.layer.Layer.{Layer}
 use Rattle.labels.specs.declared.row.LabelRow.{LabelRow}
-use Rattle.labels.specs.Parts.{Marked}
+use Rattle.charts.specs.Parts.{Marked}
 use Rattle.labels.specs.Queries.{Asked, row_of, label_total}
 use Rattle.labels.specs.Rows.{shown}
 use Rattle.labels.specs.Seeking.{busy_at}

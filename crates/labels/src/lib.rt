@@ -5,8 +5,6 @@ mod calls;
 mod cell;
 mod cells;
 mod constraints;
-mod inbound;
-mod index;
 mod landing;
 mod landings;
 mod layer;

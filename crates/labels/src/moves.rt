@@ -4,10 +4,10 @@ ghost use Rattle.labels.specs.Cells.{Selects, by_one};
 ghost use Rattle.labels.specs.Rows.{shown};
 
 use crate::allowed::may_go;
-use crate::inbound::Inbound;
 use crate::open_cell::OpenCell;
 use crate::row::LabelRow;
 use carts::Constrains;
+use charts::Inbound;
 use costs::CostKind;
 use floors::Floor;
 

@@ -1,8 +1,8 @@
 ghost use Rattle.std.specs.Prelude.{◌<◌, length};
-ghost use Rattle.labels.specs.Indexes.{IndexOf};
+ghost use Rattle.charts.specs.Indexes.{IndexOf};
 
-use crate::inbound::Index;
 use crate::query::Query;
+use charts::Index;
 use floors::Floor;
 
 // The search of one cart's labels: what is asked, and the moves of its floor by the place reached.

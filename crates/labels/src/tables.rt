@@ -3,12 +3,12 @@ ghost use Rattle.labels.specs.Queries.{asked, place_count};
 ghost use Rattle.labels.specs.Tables.{Hold, Holding, Filled, Laid, LaidBefore, cells_before};
 
 use crate::allowed::is_busy;
-use crate::index::index_of;
 use crate::layer::Layer;
 use crate::query::Query;
 use crate::row::LabelRow;
 use crate::search::Search;
 use carts::Constrains;
+use charts::Index;
 use costs::CostKind;
 use floors::Floor;
 
@@ -50,7 +50,7 @@ pub fn fill_labels<F: Floor, C: CostKind, B: Constrains>(
     requires table { length starts.old ≡ 8321 }
     ensures { Filled (asked F.Floor.moves C.CostKind.kind B.Constrains.constraint query.now) rows.new starts.new result }
 {
-    let index = index_of(query.floor);
+    let index = Index::of(query.floor);
     let search = Search {
         query: &*query,
         index: &index,

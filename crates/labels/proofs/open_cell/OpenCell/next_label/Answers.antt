@@ -1,11 +1,11 @@
 use Rattle.std.proofs.Common.{◌≡◌, ◌+◌, ◌<◌, get_or, length, drop, None, sym, ap, ◌∙◌, subst, arith}
 use Rattle.std.proofs.ByRecursion.{All-get_or}
-use Rattle.labels.specs.declared.inbound.Inbound.{Inbound}
-use Rattle.labels.specs.Indexes.{inbound_of}
+use Rattle.charts.specs.declared.inbound.Inbound.{Inbound}
+use Rattle.charts.specs.Indexes.{inbound_of}
 use Rattle.labels.specs.Picks.{picked, passed_over}
 use Rattle.labels.specs.Queries.{asked}
 use Rattle.labels.specs.Rows.{shown, shown_best}
-use Rattle.labels.proofs.Indexing.{inbound_inside}
+use Rattle.charts.proofs.Indexing.{inbound_inside}
 use Rattle.labels.proofs.Moving.{by_all, reaching_is, moves_at, moves_end}
 use Rattle.labels.proofs.open_cell.OpenCell.next_label.Goals as goal
 

@@ -1,4 +1,4 @@
-use Rattle.std.proofs.Common.{◌+◌, ◌≡◌, ◌∙◌, Some, None, length, take, sym, ap, subst, arith}
+use Rattle.std.proofs.Common.{Some, None, sym, subst, arith}
 use Rattle.rules.specs.Fronts.{front_of}
 use Rattle.labels.specs.Cells.{Grown}
 use Rattle.labels.specs.Queries.{asked, reaching}
