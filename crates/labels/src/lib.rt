@@ -8,7 +8,6 @@ mod constraints;
 mod landing;
 mod landings;
 mod layer;
-mod moves;
 mod offers;
 mod open_cell;
 mod query;
@@ -16,7 +15,6 @@ mod refusal;
 mod row;
 mod rows;
 mod search;
-mod so_far;
 mod tables;
 mod walks;
 

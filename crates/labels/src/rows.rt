@@ -4,8 +4,17 @@ ghost use Rattle.labels.specs.Picks.{picked, comes_after, last_cost, passed_over
 ghost use Rattle.labels.specs.Rows.{shown, shown_best, extended_by, leads};
 
 use crate::row::LabelRow;
-use crate::so_far::RowsSoFar;
 use costs::CostKind;
+
+// The rows so far: those from `start` on are of the cell that is being filled, and the last of those costs `last`.
+#[derive(Drop)]
+pub struct RowsSoFar<'a, C> {
+    pub rows: &'a [LabelRow<C>],
+    pub start: usize,
+    pub last: Option<C>,
+    ghost cell: { start ≤ length rows.now },
+    ghost few: { length rows.now ≤ 65535 },
+}
 
 // Whether `c` comes before the best so far.
 fn comes_first<C: CostKind>(best: Option<LabelRow<C>>, c: C) -> bool

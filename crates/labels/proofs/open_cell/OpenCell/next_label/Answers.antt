@@ -6,7 +6,7 @@ use Rattle.labels.specs.Picks.{picked, passed_over}
 use Rattle.labels.specs.Queries.{asked}
 use Rattle.labels.specs.Rows.{shown, shown_best}
 use Rattle.charts.proofs.Indexing.{inbound_inside}
-use Rattle.labels.proofs.Moving.{by_all, reaching_is, moves_at, moves_end}
+use Rattle.labels.proofs.Moving.{by_all, reaching_is, moves_at}
 use Rattle.labels.proofs.open_cell.OpenCell.next_label.Goals as goal
 
 pub loop-step-init : goal.loop-step-init
@@ -42,12 +42,3 @@ loop-step-preserved g c =
     let ms = c.moves_to-step-items.result.now in
     let step = moves_at a cell skip (shown_best ls c.loop-step.best) ms c.loop-step.step-index (record { from = 0; line = 0 }) c.loop-step-test.true in
     ap (λ o. picked k skip o (by_all a cell (drop (c.loop-step.step-index + 1) ms))) c.by_move-best.ensures ∙ sym step ∙ c.loop-step.invariant
-
-pub returns : goal.returns
-returns g c =
-    let k = g.C.CostKind.kind in
-    let open_cell = c.args.self.now in
-    let a = asked g.F.Floor.moves k g.B.Constrains.constraint open_cell.search.now.query.now in
-    let ls = shown open_cell.so_far.rows.now in
-    let skip = passed_over k open_cell.so_far.last (drop open_cell.so_far.start ls) in
-    sym (moves_end a open_cell.cell skip (shown_best ls c.loop-step.best) c.moves_to-step-items.result.now c.loop-step.step-index c.loop-step-test.false) ∙ c.loop-step.invariant

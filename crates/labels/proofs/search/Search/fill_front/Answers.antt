@@ -1,12 +1,17 @@
 use Rattle.std.proofs.Common.{Some, None, sym, subst, arith}
 use Rattle.rules.specs.Fronts.{front_of}
-use Rattle.labels.specs.Cells.{Grown}
+use Rattle.labels.specs.Cells.{Ready, Grown}
 use Rattle.labels.specs.Queries.{asked, reaching}
-use Rattle.labels.proofs.Filling.{filling_none, selects_next, filled_on, filled_more, filled_full, filled_done}
+use Rattle.labels.proofs.Filling.{filling_ready, selects_next, filled_on, filled_more, filled_full, filled_done}
 use Rattle.labels.proofs.search.Search.fill_front.Goals as goal
 
-pub loop-row-init : goal.loop-row-init
-loop-row-init g c = filling_none c.args.rows.now c.args.n _ c.requires.within
+pub invariant_of-next_label : goal.invariant_of-next_label
+invariant_of-next_label g c =
+    let k = g.C.CostKind.kind in
+    let a = asked g.F.Floor.moves k g.B.Constrains.constraint c.args.self.now.query.now in
+    let cell = c.args.cell in
+    let ready = filling_ready a cell c.args.rows.now c.loop-row.rows c.args.starts.now c.args.n c.loop-row.end (front_of k (reaching a cell.tick cell.place)) c.requires.ready c.loop-row.invariant in
+    record { place = c.requires.place; ready = subst (λ l. Ready a cell l c.args.starts.now) (sym c.new.ensures.rows) ready }
 
 pub returns-in_err-end : goal.returns-in_err-end
 returns-in_err-end g c =

@@ -1,13 +1,8 @@
 use Rattle.std.proofs.Common.{suc, ◌+◌, ◌<◌, ◌≤◌, length, sym, subst, arith}
 use Rattle.labels.specs.Queries.{asked, place_count}
 use Rattle.labels.specs.Tables.{Holding, cells_before}
-use Rattle.labels.proofs.Tabling.{tick_more, tick_none, tick_all, tick_full}
+use Rattle.labels.proofs.Tabling.{tick_more, tick_all, tick_full}
 use Rattle.labels.proofs.search.Search.fill_tick.Goals as goal
-
-pub loop-place-init : goal.loop-place-init
-loop-place-init g c =
-    let a = asked g.F.Floor.moves g.C.CostKind.kind g.B.Constrains.constraint c.args.self.now.query.now in
-    tick_none a c.args.layer.tick c.args.rows.now c.args.starts.now c.args.n c.requires.held
 
 pub returns-in_err-n : goal.returns-in_err-n
 returns-in_err-n g c =

@@ -9,22 +9,17 @@ returns-then-not-may_be g c =
     let a = asked g.F.Floor.moves g.C.CostKind.kind g.B.Constrains.constraint c.args.self.now.query.now in
     grown_none c.args.rows.now c.args.n _ c.requires.held.within (later_cell a c.args.layer.tick c.args.before.tick c.args.place false c.requires.laid_before.0 c.requires.place c.if-not-may_be.ensures)
 
-pub fill_front-requires : goal.fill_front-requires
-fill_front-requires g c =
+pub fill_front-requires-clause-ready : goal.fill_front-requires-clause-ready
+fill_front-requires-clause-ready g c =
     let a = asked g.F.Floor.moves g.C.CostKind.kind g.B.Constrains.constraint c.args.self.now.query.now in
     let layer = c.args.layer in
     let before = c.args.before in
     let next = c.requires.laid_before.0 in
-    let laid = c.requires.laid_before.1 in
+    let base = c.requires.laid_before.1.base in
     record {
-      within = c.requires.held.within;
-      few = c.requires.few;
-      place = c.requires.place;
-      ready = record {
-        table = table_before a layer.tick before.tick layer.base before.base (length c.args.starts.now) next c.requires.laid.base laid.base c.requires.table;
-        runs = runs_before a layer.tick before.tick before.base c.args.rows.now c.args.starts.now (take c.args.place (row_of a layer.tick)) c.args.n next laid.base c.requires.held;
-        barred = c.is_barred.ensures;
-      };
+      table = table_before a layer.tick before.tick layer.base before.base (length c.args.starts.now) next c.requires.laid.base base c.requires.table;
+      runs = runs_before a layer.tick before.tick before.base c.args.rows.now c.args.starts.now (take c.args.place (row_of a layer.tick)) c.args.n next base c.requires.held;
+      barred = c.is_barred.ensures;
     }
 
 pub returns : goal.returns

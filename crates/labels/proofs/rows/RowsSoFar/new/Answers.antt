@@ -4,7 +4,7 @@ use Rattle.labels.specs.declared.row.LabelRow.{LabelRow}
 use Rattle.std.specs.Option.{option_map}
 use Rattle.std.specs.List.{slice_get}
 use Rattle.labels.proofs.Showing.{last_shown}
-use Rattle.labels.proofs.so_far.RowsSoFar.new.Goals as goal
+use Rattle.labels.proofs.rows.RowsSoFar.new.Goals as goal
 
 pub returns-clause-last : goal.returns-clause-last
 returns-clause-last g c =

@@ -1,7 +1,7 @@
 use Rattle.std.proofs.Common.{◌≡◌, ◌+◌, take, drop}
 use Rattle.labels.specs.Picks.{picked, passed_over}
 use Rattle.labels.specs.Rows.{shown, shown_best, extended_by}
-use Rattle.labels.proofs.so_far.RowsSoFar.along.Given as goal
+use Rattle.labels.proofs.rows.RowsSoFar.along.Given as goal
 
 abbrev pub invariant-loop-i : goal.invariant-loop-i
 invariant-loop-i g l =

@@ -1,11 +1,11 @@
-use Rattle.std.proofs.Common.{◌≡◌, ℕ, ◌+◌, ◌-◌, ◌<◌, ◌≤◌, true, false, length, get_or, take, drop, sym, ap, ◌∙◌, arith}
+use Rattle.std.proofs.Common.{◌≡◌, ℕ, ◌+◌, ◌-◌, ◌<◌, true, false, get_or, take, drop, sym, ap, ◌∙◌, arith}
 use Rattle.std.proofs.lemmas.List.{length-drop, length-take-le, get_or-take, get_or-drop}
 use Rattle.labels.specs.Picks.{picked, better, passed_over}
 use Rattle.labels.specs.declared.row.LabelRow.{LabelRow}
 use Rattle.labels.specs.Rows.{shown, shown_row, shown_best, extended_by}
-use Rattle.labels.proofs.Showing.{picked-at, picked_end, better_became, length-shown}
-use Rattle.labels.proofs.so_far.RowsSoFar.along.Goals as goal
-use Rattle.labels.proofs.so_far.RowsSoFar.along.Goals.{then-improves, else-improves}
+use Rattle.labels.proofs.Showing.{picked-at, better_became}
+use Rattle.labels.proofs.rows.RowsSoFar.along.Goals as goal
+use Rattle.labels.proofs.rows.RowsSoFar.along.Goals.{then-improves, else-improves}
 
 pub loop-i-preserved : goal.loop-i-preserved
 loop-i-preserved g c =
@@ -31,13 +31,3 @@ loop-i-preserved g c =
     ] in
     let rest = λ (n : ℕ). extended_by k c.args.price c.args.place (drop n (take c.args.to ls)) in
     sym (step ∙ ap (λ p. picked k skip p (rest (at + 1))) by ∙ ap (λ n. picked k skip (shown_best ls c.if-improves.best) (rest n)) on) ∙ c.loop-i.invariant
-
-pub returns : goal.returns
-returns g c =
-    let k = g.C.CostKind.kind in
-    let so_far = c.args.self.now in
-    let ls = shown so_far.rows.now in
-    let fits : c.args.to ≤ length ls = omega (arith, c.requires.within, length-shown so_far.rows.now) in
-    let n = c.args.to - c.args.from in
-    let long = length-take-le n (drop c.args.from so_far.rows.now) (omega (arith, c.requires.within, length-drop c.args.from so_far.rows.now)) in
-    sym (picked_end k ls c.args.to (c.args.from + c.loop-i.i) c.args.price c.args.place (passed_over k so_far.last (drop so_far.start ls)) (shown_best ls c.loop-i.best) (omega (arith, c.loop-i-test.false, long, c.requires.run)) fits) ∙ c.loop-i.invariant

@@ -5,7 +5,7 @@ use Rattle.labels.specs.declared.row.LabelRow.{LabelRow}
 use Rattle.std.proofs.lemmas.Iterator.{YieldsList-from_slice}
 use Rattle.std.proofs.lemmas.Iterator.Search.{any_from_yields_List}
 use Rattle.labels.proofs.Showing.{covered_shown}
-use Rattle.labels.proofs.so_far.RowsSoFar.covers.Goals as goal
+use Rattle.labels.proofs.rows.RowsSoFar.covers.Goals as goal
 
 pub returns : goal.returns
 returns g c =
