@@ -16,7 +16,6 @@ mod query;
 mod refusal;
 mod row;
 mod rows;
-mod sought;
 mod tables;
 mod walks;
 
