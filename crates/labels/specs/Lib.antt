@@ -7,5 +7,6 @@ pub mod Indexes
 pub mod Cells
 pub mod Tables
 pub mod Landings
+pub mod Choices
 pub mod Arrivals
 pub mod Answers

@@ -1,6 +1,7 @@
 #![tactic(auto)]
 
 mod allowed;
+mod arrivals;
 mod calls;
 mod cell;
 mod cells;
@@ -11,6 +12,7 @@ mod landing;
 mod landings;
 mod layer;
 mod moves;
+mod offer;
 mod offers;
 mod query;
 mod refusal;
