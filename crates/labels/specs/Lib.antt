@@ -5,5 +5,6 @@ pub mod Seeking
 pub mod Cells
 pub mod Tables
 pub mod Landings
+pub mod Choices
 pub mod Arrivals
 pub mod Answers

@@ -1,6 +1,7 @@
 #![tactic(auto)]
 
 mod allowed;
+mod arrivals;
 mod calls;
 mod cell;
 mod cells;
@@ -8,6 +9,7 @@ mod constraints;
 mod landing;
 mod landings;
 mod layer;
+mod offer;
 mod offers;
 mod open_cell;
 mod query;
