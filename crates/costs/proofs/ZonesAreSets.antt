@@ -13,12 +13,6 @@ use Rattle.costs.specs.ZoneSets.{count_below, AreSets}
 either : (x y : ℕ) → max (x % 2) (y % 2) ≡ 1 → (x % 2 ≡ 1) ⊎ (y % 2 ≡ 1)
 either x y h = ⊎_elim (λ e. inl (omega arith)) (⊎_elim (λ l. inr (omega arith)) (λ m. inl (omega arith))) (cases_order (x % 2) (y % 2))
 
-by_first : (x y : ℕ) → x % 2 ≡ 1 → max (x % 2) (y % 2) ≡ 1
-by_first x y h = omega arith
-
-by_second : (x y : ℕ) → y % 2 ≡ 1 → max (x % 2) (y % 2) ≡ 1
-by_second x y h = omega arith
-
 nothing_more : (x y : ℕ) → (x % 2 ≡ 1 → y % 2 ≡ 1) → max (x % 2) (y % 2) ≡ y % 2
 nothing_more x y h = ⊎_elim (λ e. let k = h e in omega arith) (⊎_elim (λ l. omega arith) (λ m. absurd (omega arith))) (cases_order (x % 2) 1)
 
@@ -39,9 +33,9 @@ are_sets =
     record {
       none = λ n h. omega (arith, zero-div (2 ^ n), h);
       joined = λ a b n h. either (a.bits / 2 ^ n) (b.bits / 2 ^ n) (sym (bit_at_or a.bits b.bits n) ∙ h);
-      from_first = λ a b n h. bit_at_or a.bits b.bits n ∙ by_first (a.bits / 2 ^ n) (b.bits / 2 ^ n) h;
-      from_second = λ a b n h. bit_at_or a.bits b.bits n ∙ by_second (a.bits / 2 ^ n) (b.bits / 2 ^ n) h;
-      subset = λ a b le n h. ap (λ (x : ℕ). x / 2 ^ n % 2) (sym (eqb-true _ _ le)) ∙ bit_at_or a.bits b.bits n ∙ by_first (a.bits / 2 ^ n) (b.bits / 2 ^ n) h;
+      from_first = λ a b n h. omega (arith, bit_at_or a.bits b.bits n, h);
+      from_second = λ a b n h. omega (arith, bit_at_or a.bits b.bits n, h);
+      subset = λ a b le n h. omega (arith, ap (λ (x : ℕ). x / 2 ^ n % 2) (eqb-true _ _ le), bit_at_or a.bits b.bits n, h);
       from_subset = λ a b h. eq-eqb _ _ (same_from_bits_below 64 _ _ (or_lt 64 a.bits b.bits a.fits b.fits) b.fits (λ n l.
           bit_at_or a.bits b.bits n ∙ nothing_more (a.bits / 2 ^ n) (b.bits / 2 ^ n) (h n l)));
       counted = λ z. ap ones (sym (mod-eq_of_lt z.fits)) ∙ ones_below 64 z;

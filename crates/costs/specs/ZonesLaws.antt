@@ -3,6 +3,7 @@
 use Rattle.std.specs.Prelude.{◌≡◌, ℕ, ◌^◌, ◌<◌, ◌≤◌, ◌≢◌, bit_or, count_ones, refl}
 use Rattle.std.proofs.Common.{sym, ap, ◌∙◌, arith, length-append}
 use Rattle.std.proofs.lemmas.Nat.{le_or_l, or_comm, ones-le}
+use Rattle.std.specs.Int.{bit_at}
 use Rattle.std.specs.Int.Bits.{or_self}
 use Rattle.std.proofs.lemmas.Nat.Bits.{bit_at_or, same_from_bits}
 use Rattle.std.proofs.lemmas.Bool.{eqb-true, eq-eqb}
@@ -21,12 +22,12 @@ or_assoc : (a b c : ℕ) → bit_or (bit_or a b) c ≡ bit_or a (bit_or b c)
 or_assoc a b c = same_from_bits _ _ (λ i. omega (arith, bit_at_or (bit_or a b) c i, bit_at_or a b i, bit_at_or a (bit_or b c) i, bit_at_or b c i))
 
 or_trans : (a b c : ℕ) → bit_or a b ≡ b → bit_or b c ≡ c → bit_or a c ≡ c
-or_trans a b c p q = ap (bit_or a) (sym q) ∙ sym (or_assoc a b c) ∙ ap (λ (x : ℕ). bit_or x c) p ∙ q
+or_trans a b c p q =
+    same_from_bits _ _ (λ i. omega (arith, bit_at_or a c i, bit_at_or a b i, bit_at_or b c i, ap (λ (n : ℕ). bit_at n i) p, ap (λ (n : ℕ). bit_at n i) q))
 
 or_mono : (a b c : ℕ) → bit_or a b ≡ b → bit_or (bit_or a c) (bit_or b c) ≡ bit_or b c
 or_mono a b c p =
-    or_assoc a c (bit_or b c) ∙ ap (bit_or a) (sym (or_assoc c b c) ∙ ap (λ (x : ℕ). bit_or x c) (or_comm c b) ∙ or_assoc b c c ∙ ap (bit_or b) (or_self c))
-    ∙ sym (or_assoc a b c) ∙ ap (λ (x : ℕ). bit_or x c) p
+    same_from_bits _ _ (λ i. omega (arith, bit_at_or (bit_or a c) (bit_or b c) i, bit_at_or a c i, bit_at_or b c i, bit_at_or a b i, ap (λ (n : ℕ). bit_at n i) p))
 
 pub zones_laws : Laws zones_kind
 zones_laws =

@@ -53,6 +53,7 @@ impl<A: CostKind, B: CostKind> CostKind for Pair<A, B> {
         self.first.at_most(other.first) && self.second.at_most(other.second)
     }
 
+    // By the parts' kinds, whose order need not be the one that is derived.
     fn before(self, other: Pair<A, B>) -> bool {
         self.first.before(other.first)
             || !other.first.before(self.first) && self.second.before(other.second)

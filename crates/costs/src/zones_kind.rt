@@ -41,6 +41,7 @@ impl CostKind for Zones {
         }
     }
 
+    // Subset, which the derived order of the numbers is not.
     fn at_most(self, other: Zones) -> bool {
         self.bits | other.bits == other.bits
     }
