@@ -7,7 +7,6 @@ use Rattle.carts.specs.declared.draft.Draft.{Draft}
 use Rattle.carts.specs.Drafts.{horizon_refusal}
 use Rattle.floors.specs.declared.lane_floor.LaneFloor.{LaneFloor}
 use Rattle.floors.specs.Lanes.{lane_count}
-use Rattle.floors.specs.MoveTables.{table_moves}
 use Rattle.floors.specs.Refusals.{size_fits}
 use Rattle.floors.proofs.LaneTables.{count_none, none_from}
 use Rattle.sites.specs.declared.reading.Reading.{Reading}
@@ -49,7 +48,7 @@ module _ (rooms : Rooms) (bytes : List ℕ) (draft : Draft) (n : ℕ) (front : F
         why = why;
       }
 
-  pub third_reached : (floor : LaneFloor) (places m : ℕ) (blank : CartRow) → draft.carts ≡ 0 → Front (take (length bytes - n) (drop n bytes)) (Places places) m → size_fits places ≡ true → table_moves floor.table ≡ replicate places [] → Reached rooms bytes (n + m) 3 (record { draft = draft; floor = floor; carts = blank ∷ (blank ∷ (blank ∷ (blank ∷ (blank ∷ (blank ∷ []))))); lanes = 0; tariff = 0; rank = 2 })
+  pub third_reached : (floor : LaneFloor) (places m : ℕ) (blank : CartRow) → draft.carts ≡ 0 → Front (take (length bytes - n) (drop n bytes)) (Places places) m → size_fits places ≡ true → floor.table ≡ replicate places [] → Reached rooms bytes (n + m) 3 (record { draft = draft; floor = floor; carts = blank ∷ (blank ∷ (blank ∷ (blank ∷ (blank ∷ (blank ∷ []))))); lanes = 0; tariff = 0; rank = 2 })
   third_reached floor places m blank none front' fits moves =
       let long = front_long bytes _ n front in
       let inside = front.inside in

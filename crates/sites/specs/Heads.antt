@@ -3,7 +3,6 @@ use Rattle.std.specs.Prelude.{◌≡◌, ℕ, ◌+◌, ◌≤◌, true, List, []
 use Rattle.carts.specs.declared.draft.Draft.{Draft}
 use Rattle.carts.specs.Drafts.{horizon_refusal}
 use Rattle.floors.specs.declared.lane_floor.LaneFloor.{LaneFloor}
-use Rattle.floors.specs.MoveTables.{table_moves}
 use Rattle.floors.specs.Refusals.{size_fits}
 use Rattle.sites.specs.declared.reading.Reading.{Reading}
 use Rattle.sites.specs.declared.records.Record.{Record}
@@ -21,7 +20,7 @@ HorizonRead left (Ok p) = Front left (Horizon p.0.horizon) p.1 × (horizon_refus
 HorizonRead left (Err f) = (rooms : Rooms) → FaultAt rooms [] left f
 
 abbrev pub PlacesRead : List ℕ → Result (LaneFloor × ℕ) SiteFault → Type 0
-PlacesRead left (Ok p) = (n : ℕ) × Front left (Places n) p.1 × (size_fits n ≡ true) × (table_moves p.0.table ≡ replicate n [])
+PlacesRead left (Ok p) = (n : ℕ) × Front left (Places n) p.1 × (size_fits n ≡ true) × (p.0.table ≡ replicate n [])
 PlacesRead left (Err f) = (rooms : Rooms) (h : ℕ) → FaultAt rooms (Horizon h ∷ []) left f
 
 -- some records are read: the next begins at this byte, on this line
