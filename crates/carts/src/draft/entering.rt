@@ -72,6 +72,7 @@ impl Draft {
     ) -> Result<Draft, (Draft, DraftRefusal)>
         ensures { Entered self rows.old start goal rows.new result }
     {
+        // A `match`, and no `?`: the draft goes into either answer.
         match self.admit(rows, start, goal) {
             Ok(cart) => {
                 rows[self.carts as usize] = cart;
