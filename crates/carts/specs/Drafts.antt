@@ -1,6 +1,7 @@
 -- Drafts: which horizons and carts they take, and why they refuse the others.
 -- Assumes nothing.
-use Rattle.std.specs.Prelude.{◌≡◌, ℕ, ◌+◌, Bool, false, cond, ◌||◌, List, [], ◌∷◌, length, take, set, Some, None, Ok, Err, Option, Result, ◌==◌, nat_le, nat_lt}
+use Rattle.std.specs.Prelude.{◌≡◌, ℕ, ◌+◌, Bool, cond, ◌||◌, List, length, take, set, Some, None, Ok, Err, Option, Result, ◌==◌, nat_le, nat_lt}
+use Rattle.std.specs.List.{list_any}
 use Rattle.carts.specs.declared.cart.Cart.{Cart}
 use Rattle.carts.specs.declared.draft.Draft.{Draft}
 use Rattle.carts.specs.declared.draft_refusal.DraftRefusal.{DraftRefusal}
@@ -23,8 +24,7 @@ Started h (Err e) = horizon_refusal h ≡ Some e
 
 -- some cart has this place, as its start or as its goal
 abbrev pub among : (Cart → ℕ) → ℕ → List Cart → Bool
-among end place [] = false
-among end place (c ∷ cs) = end c == place || among end place cs
+among end place = list_any (λ c. end c == place)
 
 abbrev pub start_among : ℕ → List Cart → Bool
 start_among = among (λ c. c.start)
@@ -39,6 +39,11 @@ cart_refusal entered rows start goal =
     (cond (nat_lt 127 start || nat_lt 127 goal) (Some NoPlace)
     (cond (start_among start entered) (Some StartTaken)
     (cond (goal_among goal entered) (Some GoalTaken) None)))
+
+-- the cart that is to be entered after others, or why it is refused
+abbrev pub Admitted : List Cart → ℕ → ℕ → ℕ → Result Cart DraftRefusal → Type 0
+Admitted entered rows start goal (Ok cart) = (cart_refusal entered rows start goal ≡ None) × (cart ≡ record { start = start; goal = goal })
+Admitted entered rows start goal (Err e) = cart_refusal entered rows start goal ≡ Some e
 
 -- a cart was entered in its row and no other; or the draft came back, with all rows as they were
 abbrev pub Entered : Draft → List Cart → ℕ → ℕ → List Cart → Result Draft (Draft × DraftRefusal) → Type 0

@@ -5,27 +5,21 @@ ghost use Rattle.carts.specs.Drafts.{draft_refusal_number};
 #[derive(Clone, Copy, PartialEq, Eq, Debug)]
 pub enum DraftRefusal {
     // the horizon is not 1 to 64
-    BadHorizon,
+    BadHorizon = 1,
     // six carts are entered, or no row is left
-    NoRow,
+    NoRow = 2,
     // the start or the goal is above 127
-    NoPlace,
+    NoPlace = 3,
     // a cart starts there
-    StartTaken,
+    StartTaken = 4,
     // a cart is to go there
-    GoalTaken,
+    GoalTaken = 5,
 }
 
 impl DraftRefusal {
     pub fn number(self) -> u16
         ensures { result ≡ draft_refusal_number self }
     {
-        match self {
-            DraftRefusal::BadHorizon => 1,
-            DraftRefusal::NoRow => 2,
-            DraftRefusal::NoPlace => 3,
-            DraftRefusal::StartTaken => 4,
-            DraftRefusal::GoalTaken => 5,
-        }
+        self as u16
     }
 }

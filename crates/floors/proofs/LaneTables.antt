@@ -82,6 +82,9 @@ fits_from moves r h = ltb-true _ _ (and_parts _ _ h).0
 pub fits_to : (moves : List (List Move)) (r : LaneRow) → lane_fits moves r ≡ true → r.to < length moves
 fits_to moves r h = ltb-true _ _ (and_parts _ _ (and_parts _ _ h).1).0
 
+pub fits_room : (moves : List (List Move)) (r : LaneRow) → lane_fits moves r ≡ true → length (get_or moves r.from []) < 8
+fits_room moves r h = ltb-true _ _ (and_parts _ _ (and_parts _ _ h).1).1
+
 -- what a refusal that is there or not tells of its test
 
 pub passed : {X : Type 0} (b : Bool) (x : X) → none ≡ cond b none (some x) → b ≡ true

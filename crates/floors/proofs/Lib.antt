@@ -1,2 +1,4 @@
-mod Cells
+pub mod Bounds
+pub mod Cells
 pub mod LaneTables
+pub mod Tables

@@ -1,8 +1,9 @@
 ghost use Rattle.std.specs.Prelude.{◌≡◌, [], ◌∷◌, replicate, IfOk, MatchResult};
 ghost use Rattle.floors.specs.Lanes.{lane_count, lane_fits, lane_moves, lane_refusal, row_move, row_refusal};
-ghost use Rattle.floors.specs.MoveTables.{extended, table_moves};
+ghost use Rattle.floors.specs.MoveTables.{extended};
 ghost use Rattle.floors.specs.Refusals.{refusal_of, size_refusal};
-ghost use Rattle.floors.specs.Tables.{table_bounds};
+ghost use Rattle.std.proofs.Props.{props};
+ghost use Rattle.floors.specs.Floors.{FloorBounds};
 
 use crate::floor::Floor;
 use crate::lane_row::LaneRow;
@@ -15,14 +16,15 @@ use crate::step::Step;
 pub struct LaneFloor {
     table: MoveTable,
     lanes: u16,
-    ghost counted: { lanes ≡ lane_count (table_moves table) },
+    ghost counted: { lanes ≡ lane_count table },
+    ghost bounds: { FloorBounds table } by { Prim.hlevel props },
 }
 
 impl LaneFloor {
     // The floor of a whole table.
     pub fn new(places: u16, rows: &[LaneRow]) -> Result<LaneFloor, FloorRefusal>
         ensures refusal { refusal_of result ≡ lane_refusal places rows.now }
-        ensures moves { IfOk result (λ f. table_moves f.table ≡ lane_moves places rows.now) }
+        ensures moves { IfOk result (λ f. f.table ≡ lane_moves places rows.now) }
     {
         let mut floor = LaneFloor::empty(places)?;
         for row in rows {
@@ -34,9 +36,9 @@ impl LaneFloor {
     // A floor with no lane yet.
     pub fn empty(places: u16) -> Result<LaneFloor, FloorRefusal>
         ensures refusal { refusal_of result ≡ size_refusal places }
-        ensures moves { IfOk result (λ f. table_moves f.table ≡ replicate places []) }
+        ensures moves { IfOk result (λ f. f.table ≡ replicate places []) }
     {
-        if places < 1 || places > 128 {
+        if !(1..=128).contains(&places) {
             return Err(FloorRefusal::BadSize);
         }
         Ok(LaneFloor {
@@ -47,8 +49,8 @@ impl LaneFloor {
 
     // One lane more, after those of its place. A refused row leaves the floor as it was; its number is that of the lanes before it.
     pub fn add_lane(&mut self, row: LaneRow) -> Result<(), FloorRefusal>
-        ensures refusal { refusal_of result ≡ row_refusal (table_moves self.old.table) row }
-        ensures moves { MatchResult result (λ _. table_moves self.new.table ≡ extended (table_moves self.old.table) row.from (row_move row ∷ [])) (λ _. self.new ≡ self.old) }
+        ensures refusal { refusal_of result ≡ row_refusal self.old.table row }
+        ensures moves { MatchResult result (λ _. self.new.table ≡ extended self.old.table row.from (row_move row ∷ [])) (λ _. self.new ≡ self.old) }
     {
         if !self.takes(row) {
             return Err(FloorRefusal::BadRow(self.lanes));
@@ -65,17 +67,17 @@ impl LaneFloor {
     }
 
     fn takes(&self, row: LaneRow) -> bool
-        ensures { result ≡ lane_fits (table_moves self.now.table) row }
+        ensures { result ≡ lane_fits self.now.table row }
     {
-        let places = self.table.places() as u16;
+        let places = u16::from(self.table.places());
         row.from < places && row.to < places && self.table.move_count(row.from as u8) < 8
     }
 }
 
 impl Floor for LaneFloor {
-    ghost moves = { λ f. table_moves f.table };
+    ghost moves = { λ f. f.table };
 
-    ghost bounds = { λ f. table_bounds f.table };
+    ghost bounds = { λ f. f.bounds };
 
     fn places(&self) -> u8 {
         self.table.places()

@@ -1,10 +1,10 @@
 #![tactic(auto)]
 
 mod floor;
+mod grid;
 mod grid_floor;
 pub mod lane_floor;
 pub mod lane_row;
-mod move_list;
 mod move_table;
 pub mod refusal;
 mod side;

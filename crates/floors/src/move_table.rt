@@ -1,18 +1,80 @@
-ghost use Rattle.std.specs.Prelude.{◌≡◌, ℕ, ◌<◌, ◌≤◌, length};
-ghost use Rattle.floors.specs.MoveLists.{reached};
+ghost use Rattle.std.specs.Prelude.{◌≡◌, ◌<◌, ◌≤◌, [], ◌∷◌, ◌++◌, map, length, replicate, slice_index_or};
+ghost use Rattle.std.proofs.Math.ListN.{get_elem?};
+ghost use Rattle.floors.specs.Floors.{move_of, step_option};
+ghost use Rattle.floors.specs.MoveTables.{extended};
 
-use crate::move_list::MoveList;
+use crate::step::Step;
+use arrayvec::ArrayVec;
+use std::marker::Model;
 
-mod asking;
-mod filling;
-
-// The moves of every place of a floor. A step out of use reaches place 0, so that every step reaches a place of the floor.
+// The moves of every place of a floor, in memory of a fixed size.
 #[derive(Drop)]
 pub struct MoveTable {
-    places: u8,
-    lists: [MoveList; 128],
-    ghost nonempty: { 1 ≤ places },
-    ghost few: { places ≤ 128 },
-    ghost full: { length lists ≡ 128 },
-    ghost inside: { (p k : ℕ) → reached lists p k < places },
+    lists: ArrayVec<ArrayVec<Step, 8>, 128>,
+}
+
+impl Model for MoveTable {
+    ghost use Rattle.std.specs.Prelude.{List, map};
+    ghost use Rattle.rules.specs.Instances.{Move};
+    ghost use Rattle.floors.specs.Floors.{move_of};
+
+    ghost Value = { List (List Move) };
+
+    ghost view = { λ t. map (λ l. map move_of l.items) t.lists.items };
+}
+
+impl MoveTable {
+    // A table of this many places, none with a move.
+    pub(crate) fn empty(places: u8) -> MoveTable
+        requires { places ≤ 128 }
+        ensures { result ≡ replicate places [] }
+    {
+        let mut lists = ArrayVec::new();
+        for _ in 0..places {
+            lists.push(ArrayVec::new());
+        }
+        MoveTable { lists }
+    }
+
+    // One more place, with its moves.
+    pub(crate) fn add_place(&mut self, moves: ArrayVec<Step, 8>)
+        requires { length self.old < 128 }
+        ensures { self.new ≡ self.old ++ map move_of moves.items ∷ [] }
+    {
+        self.lists.push(moves);
+    }
+
+    // One more move of a place, after those that it has.
+    pub(crate) fn push(&mut self, place: u8, step: Step)
+        requires from { place < length self.old }
+        requires room { length (slice_index_or self.old place []) < 8 }
+        ensures { self.new ≡ extended self.old place (move_of step ∷ []) }
+    {
+        self.lists[place as usize].push(step);
+    }
+
+    pub(crate) fn places(&self) -> u8
+        ensures { result ≡ length self.now }
+    {
+        self.lists.len() as u8
+    }
+
+    // How many moves a place has; an absent place has none.
+    pub(crate) fn move_count(&self, place: u8) -> u8
+        ensures { result ≡ length (slice_index_or self.now place []) }
+    {
+        self.lists
+            .get(place as usize)
+            .map_or(0, |list| list.len() as u8)
+    }
+
+    // One move of a place, or none where it is absent.
+    pub(crate) fn step(&self, place: u8, number: u8) -> Option<Step>
+        ensures { step_option result ≡ get_elem? (slice_index_or self.now place []) number }
+    {
+        self.lists
+            .get(place as usize)?
+            .get(number as usize)
+            .copied()
+    }
 }

@@ -7,7 +7,6 @@ use Rattle.carts.specs.declared.draft.Draft.{Draft}
 use Rattle.carts.specs.Drafts.{horizon_refusal}
 use Rattle.floors.specs.declared.lane_floor.LaneFloor.{LaneFloor}
 use Rattle.floors.specs.Lanes.{lane_count}
-use Rattle.floors.specs.MoveTables.{table_moves}
 use Rattle.floors.specs.Refusals.{size_fits}
 use Rattle.floors.proofs.LaneTables.{count_none, none_from}
 use Rattle.sites.specs.declared.rank.Rank.TheVariants.{Places as AfterPlaces}
@@ -56,7 +55,7 @@ module _ (rooms : Rooms) (bytes rest : List ℕ) (draft : Draft) (front : Front 
         why = why;
       }
 
-  pub third_reached : (floor : LaneFloor) (places : ℕ) (left : List ℕ) (blank : CartRow) → draft.carts ≡ 0 → Front rest (Places places) left → size_fits places ≡ true → table_moves floor.table ≡ replicate places [] → Reached rooms bytes left 3 (record { site = record { draft = draft; floor = floor; lanes = 0; tariff = 0 }; carts = replicate 6 blank; rank = AfterPlaces })
+  pub third_reached : (floor : LaneFloor) (places : ℕ) (left : List ℕ) (blank : CartRow) → draft.carts ≡ 0 → Front rest (Places places) left → size_fits places ≡ true → floor.table ≡ replicate places [] → Reached rooms bytes left 3 (record { site = record { draft = draft; floor = floor; lanes = 0; tariff = 0 }; carts = replicate 6 blank; rank = AfterPlaces })
   third_reached floor places left blank none front' fits moves =
       let first = Horizon draft.horizon in
       let long = front_long bytes _ rest front in

@@ -3,7 +3,6 @@ use Rattle.std.specs.Prelude.{◌≡◌, ℕ, ◌+◌, ◌≤◌, true, List, []
 use Rattle.carts.specs.declared.draft.Draft.{Draft}
 use Rattle.carts.specs.Drafts.{horizon_refusal}
 use Rattle.floors.specs.declared.lane_floor.LaneFloor.{LaneFloor}
-use Rattle.floors.specs.MoveTables.{table_moves}
 use Rattle.floors.specs.Refusals.{size_fits}
 use Rattle.sites.specs.declared.reading.Reading.{Reading}
 use Rattle.sites.specs.declared.records.Record.{Record}
@@ -23,7 +22,7 @@ HorizonRead bytes rest (Err f) = (rooms : Rooms) → FaultAt rooms [] bytes f
 
 -- the second record, likewise
 abbrev pub PlacesRead : List ℕ → List ℕ → Result LaneFloor SiteFault → Type 0
-PlacesRead bytes rest (Ok floor) = (n : ℕ) × Front bytes (Places n) rest × (size_fits n ≡ true) × (table_moves floor.table ≡ replicate n [])
+PlacesRead bytes rest (Ok floor) = (n : ℕ) × Front bytes (Places n) rest × (size_fits n ≡ true) × (floor.table ≡ replicate n [])
 PlacesRead bytes rest (Err f) = (rooms : Rooms) (h : ℕ) → FaultAt rooms (Horizon h ∷ []) bytes f
 
 -- some records are read: the next begins the bytes that are left, on this line

@@ -7,7 +7,6 @@ use Rattle.carts.specs.declared.cart.Cart.{Cart as CartRow}
 use Rattle.carts.specs.Drafts.{cart_refusal}
 use Rattle.floors.specs.declared.lane_row.LaneRow.{LaneRow}
 use Rattle.floors.specs.Lanes.{lane_count, lane_moves}
-use Rattle.floors.specs.MoveTables.{table_moves}
 use Rattle.sites.specs.declared.rank.Rank.{Rank}
 use Rattle.sites.specs.declared.rank.Rank.TheVariants.{Places, Lane, Tariff, Cart}
 use Rattle.sites.specs.declared.reading.Reading.{Reading}
@@ -23,8 +22,8 @@ pub record Holds (s : SiteData) (r : Reading) : Type 0 where
   pub entered : r.site.draft.carts ≡ length s.carts
   pub carts : take (length s.carts) r.carts ≡ s.carts
   pub rows : length r.carts ≡ 6
-  pub floor : table_moves r.site.floor.table ≡ lane_moves s.places s.lanes
-  pub counted : lane_count (table_moves r.site.floor.table) ≡ length s.lanes
+  pub floor : r.site.floor.table ≡ lane_moves s.places s.lanes
+  pub counted : lane_count r.site.floor.table ≡ length s.lanes
   pub lanes : r.site.lanes ≡ length s.lanes
   pub tariff : r.site.tariff ≡ length s.tariff
 

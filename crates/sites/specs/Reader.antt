@@ -6,7 +6,6 @@ use Rattle.costs.specs.declared.worst.Worst.{Worst}
 use Rattle.carts.specs.declared.cart.Cart.{Cart as CartRow}
 use Rattle.floors.specs.declared.lane_row.LaneRow.{LaneRow}
 use Rattle.floors.specs.Lanes.{lane_moves}
-use Rattle.floors.specs.MoveTables.{table_moves}
 use Rattle.sites.specs.declared.records.Record.{Record}
 use Rattle.sites.specs.declared.refusal.SiteFault.TheVariants.{TooLong}
 use Rattle.sites.specs.declared.refusal.SiteRefusal.{SiteRefusal}
@@ -35,7 +34,7 @@ filled_with s t = record { lanes = filled s.lanes t.lanes; tariff = filled s.tar
 pub record SiteHolds (s : SiteData) (site : Site) : Type 0 where
   pub horizon : site.draft.horizon ≡ s.horizon
   pub carts : site.draft.carts ≡ length s.carts
-  pub floor : table_moves site.floor.table ≡ lane_moves s.places s.lanes
+  pub floor : site.floor.table ≡ lane_moves s.places s.lanes
   pub lanes : site.lanes ≡ length s.lanes
   pub tariff : site.tariff ≡ length s.tariff
 

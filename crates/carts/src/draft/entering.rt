@@ -1,5 +1,6 @@
-ghost use Rattle.std.specs.Prelude.{◌≡◌};
-ghost use Rattle.carts.specs.Drafts.{Started, Entered, start_among, goal_among};
+ghost use Rattle.std.specs.Prelude.{◌≡◌, cond, take, length, Ok, Err, MatchResult, nat_lt};
+ghost use Rattle.carts.specs.declared.draft_refusal.DraftRefusal.TheVariants.{NoPlace};
+ghost use Rattle.carts.specs.Drafts.{Started, Admitted, Entered, start_among, goal_among};
 
 use crate::cart::Cart;
 use crate::draft::Draft;
@@ -9,24 +10,30 @@ const MOST_TICKS: u16 = 64;
 
 const MOST_CARTS: usize = 6;
 
-const LAST_PLACE: u16 = 127;
+const LAST_PLACE: u8 = 127;
 
-// Whether a cart starts at one place, and whether a cart goes to the other.
-fn taken(rows: &[Cart], start: u16, goal: u16) -> (bool, bool)
-    ensures start { result.0 ≡ start_among start rows.now }
-    ensures goal { result.1 ≡ goal_among goal rows.now }
+// The place with a number, if any floor can have it.
+fn place(number: u16) -> Result<u8, DraftRefusal>
+    ensures { result ≡ cond (nat_lt 127 number) (Err NoPlace) (Ok number) }
 {
-    let mut starts = false;
-    let mut goals = false;
-    for row in rows {
-        if row.start as u16 == start {
-            starts = true;
-        }
-        if row.goal as u16 == goal {
-            goals = true;
-        }
+    match u8::try_from(number) {
+        Ok(place) if place <= LAST_PLACE => Ok(place),
+        _ => Err(DraftRefusal::NoPlace),
     }
-    (starts, goals)
+}
+
+// Whether a cart starts at a place.
+fn starts_at(carts: &[Cart], place: u8) -> bool
+    ensures { result ≡ start_among place carts.now }
+{
+    carts.iter().any(|cart| cart.start == place)
+}
+
+// Whether a cart is to go to a place.
+fn goes_to(carts: &[Cart], place: u8) -> bool
+    ensures { result ≡ goal_among place carts.now }
+{
+    carts.iter().any(|cart| cart.goal == place)
 }
 
 impl Draft {
@@ -34,7 +41,7 @@ impl Draft {
     pub fn start(horizon: u16) -> Result<Draft, DraftRefusal>
         ensures { Started horizon result }
     {
-        if horizon < 1 || horizon > MOST_TICKS {
+        if !(1..=MOST_TICKS).contains(&horizon) {
             return Err(DraftRefusal::BadHorizon);
         }
         Ok(Draft {
@@ -65,27 +72,36 @@ impl Draft {
     ) -> Result<Draft, (Draft, DraftRefusal)>
         ensures { Entered self rows.old start goal rows.new result }
     {
+        // A `match`, and no `?`: the draft goes into either answer.
+        match self.admit(rows, start, goal) {
+            Ok(cart) => {
+                rows[self.carts as usize] = cart;
+                Ok(Draft {
+                    horizon: self.horizon,
+                    carts: self.carts + 1,
+                })
+            }
+            Err(refusal) => Err((self, refusal)),
+        }
+    }
+
+    // The cart that is to be entered, unless it is refused.
+    fn admit(&self, rows: &[Cart], start: u16, goal: u16) -> Result<Cart, DraftRefusal>
+        ensures { Admitted (take self.now.carts rows.now) (length rows.now) start goal result }
+    {
         let row = self.carts as usize;
         if row >= MOST_CARTS || row >= rows.len() {
-            return Err((self, DraftRefusal::NoRow));
+            return Err(DraftRefusal::NoRow);
         }
-        if start > LAST_PLACE || goal > LAST_PLACE {
-            return Err((self, DraftRefusal::NoPlace));
+        let entered = &rows[..row];
+        let start = place(start)?;
+        let goal = place(goal)?;
+        if starts_at(entered, start) {
+            return Err(DraftRefusal::StartTaken);
         }
-        let (starts, goals) = taken(&rows[0..row], start, goal);
-        if starts {
-            return Err((self, DraftRefusal::StartTaken));
+        if goes_to(entered, goal) {
+            return Err(DraftRefusal::GoalTaken);
         }
-        if goals {
-            return Err((self, DraftRefusal::GoalTaken));
-        }
-        rows[row] = Cart {
-            start: start as u8,
-            goal: goal as u8,
-        };
-        Ok(Draft {
-            horizon: self.horizon,
-            carts: self.carts + 1,
-        })
+        Ok(Cart { start, goal })
     }
 }

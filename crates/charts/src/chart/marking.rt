@@ -32,21 +32,14 @@ impl Chart {
                 cart: of,
                 place,
                 tick,
-            } => {
-                if of == cart {
-                    self.shut_cell(places, place, tick);
-                }
-            }
+            } if of == cart => self.shut_cell(places, place, tick),
             Constraint::Edge {
                 cart: of,
                 from,
                 to,
                 tick,
-            } => {
-                if of == cart && to < places {
-                    self.close_moves(places, from, to, tick);
-                }
-            }
+            } if of == cart && to < places => self.close_moves(places, from, to, tick),
+            _ => {}
         }
     }
 

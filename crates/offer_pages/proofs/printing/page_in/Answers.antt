@@ -1,6 +1,5 @@
 use Rattle.std.proofs.Common.{◌≡◌, ◌-◌, ◌≤◌, map, length, take, sym, refl, ap, ◌∙◌, subst, arith, rules}
 use Rattle.carts.specs.Carts.{cart_of}
-use Rattle.floors.specs.MoveTables.{table_moves}
 use Rattle.rules.specs.Instances.{Instance}
 use Rattle.sites.specs.declared.rooms.Rooms.{Rooms}
 use Rattle.sites.specs.Reader.{tables}
@@ -37,7 +36,7 @@ returns c =
     let i : Instance Cost =
     record {
       kind = site_kind;
-      moves = table_moves site.floor.table;
+      moves = site.floor.table;
       tariff = take (site.tariff - 0) c.read_site.new.tariff;
       carts = map cart_of (take (c.carts-count.result - 0) c.read_site.new.carts);
       horizon = c.horizon-horizon.result;

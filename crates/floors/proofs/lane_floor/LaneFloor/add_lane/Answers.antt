@@ -1,28 +1,32 @@
-use Rattle.std.proofs.Common.{sym, ap, ◌∙◌, arith}
-use Rattle.floors.specs.Lanes.{lane_count}
-use Rattle.floors.specs.MoveTables.{table_moves}
-use Rattle.floors.proofs.LaneTables.{count_extended, count_few, fits_from, fits_to}
-use Rattle.floors.specs.Tables.{table_bounds}
+use Rattle.std.proofs.Common.{sym, ap, ◌∙◌, subst, arith}
+use Rattle.floors.specs.Floors.{FloorBounds}
+use Rattle.floors.specs.Lanes.{lane_count, row_move}
+use Rattle.floors.proofs.Bounds.{extended_bounds}
+use Rattle.floors.proofs.LaneTables.{count_extended, count_few, fits_from, fits_to, fits_room}
 use Rattle.floors.proofs.lane_floor.LaneFloor.add_lane.Goals as goal
 
 pub overflow_cast-row : goal.overflow_cast-row
 overflow_cast-row c =
-    let bounds = table_bounds c.args.self.now.table in
-    omega (arith, fits_from (table_moves c.args.self.now.table) c.args.row (sym c.if-not-takes.ensures))
+    let floor = c.args.self.now in
+    omega (arith, floor.bounds.few_places, fits_from floor.table c.args.row (sym c.if-not-takes.ensures))
 
 pub overflow_cast-row-2 : goal.overflow_cast-row-2
 overflow_cast-row-2 c =
-    let bounds = table_bounds c.args.self.now.table in
-    omega (arith, fits_to (table_moves c.args.self.now.table) c.args.row (sym c.if-not-takes.ensures))
+    let floor = c.args.self.now in
+    omega (arith, floor.bounds.few_places, fits_to floor.table c.args.row (sym c.if-not-takes.ensures))
 
 pub overflow_add-self : goal.overflow_add-self
 overflow_add-self c =
-    let counted = c.args.self.now.counted in
-    omega (arith, count_few (table_moves c.args.self.now.table) (table_bounds c.args.self.now.table))
+    let floor = c.args.self.now in
+    omega (arith, floor.counted, count_few floor.table floor.bounds)
 
 pub invariant_of-self : goal.invariant_of-self
 invariant_of-self c =
-    let from = fits_from (table_moves c.args.self.now.table) c.args.row (sym c.if-not-takes.ensures) in
-    let more = ap lane_count c.push.ensures ∙ count_extended (table_moves c.args.self.now.table) c.args.row.from _ from in
-    let counted = c.args.self.now.counted in
-    record { counted = omega arith }
+    let floor = c.args.self.now in
+    let row = c.args.row in
+    let fits = sym c.if-not-takes.ensures in
+    let from = fits_from floor.table row fits in
+    record {
+      counted = omega (arith, floor.counted, ap lane_count c.push.ensures ∙ count_extended floor.table row.from _ from);
+      bounds = subst FloorBounds (sym c.push.ensures) (extended_bounds floor.table row.from (row_move row) from (fits_to floor.table row fits) (fits_room floor.table row fits) floor.bounds);
+    }

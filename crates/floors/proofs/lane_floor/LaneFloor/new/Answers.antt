@@ -1,6 +1,5 @@
 use Rattle.std.proofs.lemmas.Result.{err_from_is_err_and}
 use Rattle.floors.specs.declared.lane_row.LaneRow.{LaneRow}
-use Rattle.floors.specs.MoveTables.{table_moves}
 use Rattle.floors.proofs.LaneTables.{read_all, read_more, read_none, read_refused}
 use Rattle.floors.proofs.lane_floor.LaneFloor.new.Goals as goal
 
@@ -15,17 +14,17 @@ loop-row-init c =
 pub loop-row-preserved : goal.loop-row-preserved
 loop-row-preserved c =
     let added = c.in_ok-add_lane.ensures in
-    read_more c.args.places c.args.rows.now (table_moves c.loop-row.floor.table) c.loop-row.row-index blank
-    c.loop-row-test.true c.loop-row.invariant (table_moves c.add_lane.new.self.table) added.refusal added.moves
+    read_more c.args.places c.args.rows.now c.loop-row.floor.table c.loop-row.row-index blank
+    c.loop-row-test.true c.loop-row.invariant c.add_lane.new.self.table added.refusal added.moves
 
 pub returns-in_err-add_lane : goal.returns-in_err-add_lane
 returns-in_err-add_lane c =
     let p = err_from_is_err_and c.from_residual-in_err-add_lane.result c.from_residual-in_err-add_lane.ensures.1 in
-    let first = read_refused c.args.places c.args.rows.now (table_moves c.loop-row.floor.table) c.loop-row.row-index blank
+    let first = read_refused c.args.places c.args.rows.now c.loop-row.floor.table c.loop-row.row-index blank
     c.loop-row-test.true c.loop-row.invariant _ c.in_err-add_lane.ensures.refusal in
     rw (p.1, p.2) (record { refusal = first; moves = tt })
 
 pub returns : goal.returns
 returns c =
-    let all = read_all c.args.places c.args.rows.now (table_moves c.loop-row.floor.table) c.loop-row.row-index c.loop-row-test.false c.loop-row.invariant in
+    let all = read_all c.args.places c.args.rows.now c.loop-row.floor.table c.loop-row.row-index c.loop-row-test.false c.loop-row.invariant in
     record { refusal = all.0; moves = all.1 }

@@ -1,32 +1,18 @@
-use Rattle.std.proofs.Common.{get_or, refl, arith, length-set}
-use Rattle.floors.specs.Tables.{push_inside, push_room, table_length, table_push}
+use Rattle.std.proofs.Common.{◌<◌, [], ◌∷◌, length, map, set, ap, ◌∙◌, arith, length-set}
+use Rattle.std.proofs.lemmas.List.{length-map}
+use Rattle.floors.specs.Floors.{move_of}
+use Rattle.floors.specs.MoveTables.{extended}
+use Rattle.floors.proofs.Tables.{held, pushed, refilled}
 use Rattle.floors.proofs.move_table.MoveTable.push.Goals as goal
 
-pub listed : goal.listed
-listed c = omega (arith, table_length c.args.self.now)
-
-pub bounds-self-place : goal.bounds-self-place
-bounds-self-place c = omega (arith, table_length c.args.self.now)
-
-pub bounds-list-list : goal.bounds-list-list
-bounds-list-list c = push_room c.args.self.now c.args.place _ c.requires.from c.requires.room
-
-pub invariant_of-list : goal.invariant_of-list
-invariant_of-list c =
-    let was = get_or c.args.self.now.lists c.args.place c.index-self-place.result in
-    let room = push_room c.args.self.now c.args.place c.index-self-place.result c.requires.from c.requires.room in
-    record { few = omega arith; full = simp length-set was.full }
-
-pub listed-2 : goal.listed-2
-listed-2 c = omega (arith, table_length c.args.self.now)
-
-pub bounds-self-place-2 : goal.bounds-self-place-2
-bounds-self-place-2 c = omega (arith, table_length c.args.self.now)
-
-pub invariant_of-self : goal.invariant_of-self
-invariant_of-self c =
-    let inside = push_inside c.args.self.now c.args.place c.index-self-place.result _ c.args.step c.requires.from refl c.requires.to in
-    record { nonempty = c.args.self.now.nonempty; few = c.args.self.now.few; full = simp length-set c.args.self.now.full; inside = inside }
-
 pub returns : goal.returns
-returns c = table_push c.args.self.now c.args.place c.index-self-place.result _ c.args.step c.requires.from refl c.requires.room refl
+returns c =
+    let lists = c.self.inside.lists.items in
+    let now = c.deref_mut.result.now in
+    let after = c.push.new.self in
+    let same = c.deref_mut.ensures.value in
+    let lt : c.args.place < length now = omega (arith, c.requires.from, ap length c.self.view_is, length-map lists held, ap length same) in
+    ap (map held) (refilled lists (set now c.args.place after) (length-set now c.args.place after ∙ ap length same))
+    ∙ pushed now c.args.place c.index-deref_mut-place.result after c.args.step lt c.push.ensures.items
+    ∙ ap (λ ls. extended (map held ls) c.args.place (move_of c.args.step ∷ [])) same
+    ∙ ap (λ ms. extended ms c.args.place (move_of c.args.step ∷ [])) c.self.view_is
