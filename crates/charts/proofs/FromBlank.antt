@@ -16,6 +16,6 @@ module _ (moves : List (List Move)) (constraints : List Constraint) (cart : ℕ)
       none : (i : ℕ) → get_or (replicate 8320 false) i false ≡ false
       none i = ⊎_elim (λ in_it. get_or-replicate 8320 i false false in_it) (λ past. get_or_past (replicate 8320 false) i false (omega (arith, length-replicate 8320 false))) (cases_lt i 8320)
 
-  pub drawn_closed : (p e t : ℕ) → p < length moves → get_or after.begins p 0 ≤ e → e < get_or after.begins (p + 1) 0 → t ≤ 63 →
-      has (get_or after.closed e no_ticks) t ≡ any_of (forbids_move cart (leaves after.moves e) p t) constraints
-  drawn_closed p e t lt lo hi low = drawn.closed p e t lt lo hi low ∙ ap (λ b. b || any_of (forbids_move cart (leaves after.moves e) p t) constraints) (blank.closed e t)
+  pub drawn_closed : (p e t : ℕ) → p < length moves → get_or after.index.begins p 0 ≤ e → e < get_or after.index.begins (p + 1) 0 → t ≤ 63 →
+      has (get_or after.closed e no_ticks) t ≡ any_of (forbids_move cart (leaves after.index.moves e) p t) constraints
+  drawn_closed p e t lt lo hi low = drawn.closed p e t lt lo hi low ∙ ap (λ b. b || any_of (forbids_move cart (leaves after.index.moves e) p t) constraints) (blank.closed e t)

@@ -2,6 +2,6 @@ pub mod Flags
 pub mod TickSets
 pub mod Parts
 pub mod Indexing
-pub mod Chaining
+pub mod Placing
 pub mod Marking
 pub mod FromBlank

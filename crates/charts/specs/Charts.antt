@@ -54,8 +54,8 @@ pub record Blank (chart : Chart) : Type 0 where
 
 -- the moves of the floor by the place reached, and besides what was shut and closed before what the constraints forbid the cart
 pub record Drawn (moves : List (List Move)) (constraints : List Constraint) (cart : ℕ) (was after : Chart) : Type 0 where
-  pub indexed : AllIndexed after.begins after.moves moves
+  pub indexed : AllIndexed after.index.begins after.index.moves moves
   pub shut : ShutBy (length moves) was.shut after.shut (λ p t. any_of (forbids_place cart p t) constraints)
-  pub closed : ClosedBy after.begins after.moves (length moves) was.closed after.closed (λ u p t. any_of (forbids_move cart u p t) constraints)
+  pub closed : ClosedBy after.index.begins after.index.moves (length moves) was.closed after.closed (λ u p t. any_of (forbids_move cart u p t) constraints)
   pub other_cells : SameFrom false (65 * length moves) was.shut after.shut
-  pub other_moves : SameFrom no_ticks (slice_index after.begins (length moves)) was.closed after.closed
+  pub other_moves : SameFrom no_ticks (slice_index after.index.begins (length moves)) was.closed after.closed

@@ -2,7 +2,6 @@ ghost use Rattle.std.specs.Prelude.{map};
 ghost use Rattle.charts.specs.Charts.{Drawn};
 
 use crate::chart::Chart;
-use crate::index::fill_index;
 use crate::marks::mark_all;
 use carts::Constrains;
 use floors::Floor;
@@ -11,13 +10,14 @@ use floors::Floor;
 pub fn draw<F: Floor, B: Constrains>(floor: &F, constraints: &[B], cart: u8, chart: &mut Chart)
     ensures { Drawn (F.Floor.moves floor.now) (map B.Constrains.constraint constraints.now) cart chart.old chart.new }
 {
-    fill_index(floor, &mut chart.begins, &mut chart.moves);
+    chart.index.fill(floor);
+    let index = &chart.index;
     mark_all(
         constraints,
         cart,
         floor.places(),
-        &chart.begins,
-        &chart.moves,
+        &index.begins,
+        &index.moves,
         &mut chart.shut,
         &mut chart.closed,
     );

@@ -10,4 +10,5 @@ mod ticks;
 pub use chart::Chart;
 pub use drawing::draw;
 pub use inbound::Inbound;
+pub use index::Index;
 pub use ticks::Ticks;

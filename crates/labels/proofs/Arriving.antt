@@ -21,11 +21,11 @@ use Rattle.labels.specs.declared.landing.Landing.{Landing}
 use Rattle.labels.specs.declared.row.LabelRow.{LabelRow}
 use Rattle.labels.specs.Arrivals.{StandsFrom, LandingOf}
 use Rattle.labels.specs.Landings.{Lands, cell_of, run_of, standing, landed}
-use Rattle.labels.specs.Parts.{Part}
+use Rattle.charts.specs.Parts.{Part}
 use Rattle.labels.specs.Queries.{Asked, row_of, place_count, may_be_at, label_total, offers_of}
 use Rattle.labels.specs.Rows.{shown}
 use Rattle.labels.specs.Tables.{Hold, all_cells, cells_before}
-use Rattle.labels.proofs.Parts.{total_append}
+use Rattle.charts.proofs.Parts.{total_append}
 use Rattle.labels.proofs.Showing.{length-shown}
 use Rattle.labels.proofs.Tabling.{length_cells, table_room, tick_run}
 

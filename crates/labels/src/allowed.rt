@@ -2,7 +2,7 @@ ghost use Rattle.std.specs.Prelude.{◌≡◌};
 ghost use Rattle.labels.specs.Queries.{asked, may_be_at, may_take};
 ghost use Rattle.labels.specs.Seeking.{busy_at, barred_to};
 
-use crate::constraints::{bars_moves_to, forbids_being_at, forbids_going, is_on};
+use crate::constraints::{bars_moves_to, forbids_being_at, forbids_going, is_on, some};
 use crate::query::Query;
 use carts::Constrains;
 use costs::CostKind;
@@ -13,10 +13,7 @@ pub fn is_busy<F: Floor, C: CostKind, B: Constrains>(query: &Query<'_, F, C, B>,
     ensures { result ≡ busy_at (asked F.Floor.moves C.CostKind.kind B.Constrains.constraint query.now) tick }
 {
     let cart = query.cart;
-    query
-        .constraints
-        .iter()
-        .any(|held| is_on(held.constraint(), cart, tick))
+    some(query.constraints, |held| is_on(held, cart, tick))
 }
 
 // Whether any constraint is on the cart's moves to a place, leaving at a tick; `busy` says whether any is on it at the tick.
@@ -30,10 +27,10 @@ pub fn is_barred<F: Floor, C: CostKind, B: Constrains>(
     ensures { result ≡ barred_to (asked F.Floor.moves C.CostKind.kind B.Constrains.constraint query.now) to tick }
 {
     let cart = query.cart;
-    busy && query
-        .constraints
-        .iter()
-        .any(|held| bars_moves_to(held.constraint(), cart, to, tick))
+    busy && some(
+        query.constraints,
+        |held| bars_moves_to(held, cart, to, tick),
+    )
 }
 
 // Whether the cart may be at a place at a tick.
@@ -45,7 +42,10 @@ pub fn is_free<F: Floor, C: CostKind, B: Constrains>(
     ensures { result ≡ may_be_at (asked F.Floor.moves C.CostKind.kind B.Constrains.constraint query.now) place tick }
 {
     let cart = query.cart;
-    !query.constraints.iter().any(|held| forbids_being_at(held.constraint(), cart, place, tick))
+    !some(
+        query.constraints,
+        |held| forbids_being_at(held, cart, place, tick),
+    )
 }
 
 // The same, where `busy` says whether any constraint is on the cart then.
@@ -74,11 +74,8 @@ pub fn may_go<F: Floor, C: CostKind, B: Constrains>(
 {
     let cart = query.cart;
     !barred
-        || !query.constraints.iter().any(|held| forbids_going(
-            held.constraint(),
-            cart,
-            from,
-            to,
-            tick,
-        ))
+        || !some(
+            query.constraints,
+            |held| forbids_going(held, cart, from, to, tick),
+        )
 }

@@ -1,9 +1,9 @@
-ghost use Rattle.std.specs.Prelude.{◌≡◌};
-ghost use Rattle.rules.specs.Walks.{forbids_place, forbids_move};
+ghost use Rattle.std.specs.Prelude.{◌≡◌, Bool, map};
+ghost use Rattle.rules.specs.Walks.{Constraint as Rule, any_of, forbids_place, forbids_move};
 ghost use Rattle.carts.specs.Carts.{constraint_of};
 ghost use Rattle.labels.specs.Seeking.{names, leads_to};
 
-use carts::Constraint;
+use carts::{Constrains, Constraint};
 
 // Whether a constraint is on a cart at a tick.
 pub fn is_on(constraint: Constraint, cart: u8, tick: u8) -> bool
@@ -34,18 +34,25 @@ pub fn bars_moves_to(constraint: Constraint, cart: u8, to: u8, tick: u8) -> bool
 pub fn forbids_being_at(constraint: Constraint, cart: u8, place: u8, tick: u8) -> bool
     ensures { result ≡ forbids_place cart place tick (constraint_of constraint) }
 {
-    constraint == Constraint::Vertex { cart, place, tick }
+    matches!(constraint, Constraint::Vertex { cart: c, place: p, tick: t } if cart == c && place == p && tick == t)
 }
 
 // Whether it keeps the cart from a move, leaving at a tick.
 pub fn forbids_going(constraint: Constraint, cart: u8, from: u8, to: u8, tick: u8) -> bool
     ensures { result ≡ forbids_move cart from to tick (constraint_of constraint) }
 {
-    constraint
-        == Constraint::Edge {
-            cart,
-            from,
-            to,
-            tick,
+    matches!(constraint, Constraint::Edge { cart: c, from: u, to: v, tick: t } if cart == c && from == u && to == v && tick == t)
+}
+
+// Whether some constraint passes a test.
+pub fn some<B: Constrains, P: Fn(Constraint) -> bool>(constraints: &[B], test: P) -> bool
+    requires { P.IsAlwaysCallable test }
+    ensures { (passes : Rule → Bool) → ((x : Constraint) (b : Bool) → P.post test x b → b ≡ passes (constraint_of x)) → result ≡ any_of passes (map B.Constrains.constraint constraints.now) }
+{
+    for held in constraints {
+        if test(held.constraint()) {
+            return true;
         }
+    }
+    false
 }

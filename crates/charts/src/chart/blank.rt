@@ -1,7 +1,7 @@
 ghost use Rattle.charts.specs.Charts.{Blank};
 
 use crate::chart::Chart;
-use crate::inbound::Inbound;
+use crate::index::Index;
 use crate::ticks::Ticks;
 
 impl Chart {
@@ -10,8 +10,7 @@ impl Chart {
         ensures { Blank result }
     {
         Chart {
-            begins: [0; 129],
-            moves: [Inbound { from: 0, line: 0 }; 1024],
+            index: Index::blank(),
             shut: [false; 8320],
             closed: [Ticks::none(); 1024],
         }

@@ -1,9 +1,7 @@
 use Rattle.std.proofs.Common.{sym, ◌∙◌, rules, tests}
-use Rattle.std.proofs.lemmas.Iterator.{YieldsList-from_slice}
-use Rattle.std.proofs.lemmas.Iterator.Search.{any_from_yields_List}
 use Rattle.labels.specs.Seeking.{leads_to}
 use Rattle.labels.specs.Queries.{asked}
-use Rattle.labels.proofs.Seeking.{quiet_to, any_meant}
+use Rattle.labels.proofs.Seeking.{quiet_to}
 use Rattle.labels.proofs.allowed.is_barred.Goals as goal
 
 pub returns-else-busy : goal.returns-else-busy
@@ -15,6 +13,4 @@ returns-else-busy g c =
 pub returns-then-busy : goal.returns-then-busy
 returns-then-busy g c =
     let q = c.args.query.now in
-    let rule = g.B.Constrains.constraint in
-    let test = leads_to q.cart c.args.to c.args.tick in
-    any_from_yields_List (λ b. test (rule b)) _ _ c.any.result c.any.ensures.ran (YieldsList-from_slice q.constraints.now cc) (λ x b r k. search (rules, tests)) ∙ any_meant test rule q.constraints.now
+    c.some.ensures (leads_to q.cart c.args.to c.args.tick) (λ x b p. search (rules, tests))
