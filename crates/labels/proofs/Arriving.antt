@@ -1,8 +1,15 @@
 -- The labels that arrive: from which tick on the cart may stand at its goal, and where those labels stand in the tables.
 -- Assumes nothing.
-use Rattle.std.proofs.Common.{◌≡◌, ℕ, zero, suc, ◌+◌, ◌-◌, ◌*◌, ◌<◌, ◌≤◌, true, false, ◌⊎◌, List, [], ◌∷◌, ◌++◌, map, length, get_or, take, sym, refl, ap, ◌∙◌, subst, inl, inr, arith}
-use Rattle.std.specs.List.{range_with_len}
-use Rattle.std.proofs.lemmas.Bool.{cases_Bool, cases_lt, both_ways, leb-true, le-leb, lt-leb, cond-true, cond-false, cond_both}
+use Rattle.std.proofs.Common.{◌≡◌, ℕ, zero, suc, ◌+◌, ◌-◌, ◌*◌, ◌<◌, ◌≤◌, Bool, true, false, not, ◌⊎◌, Some, None, Option, List, [], ◌∷◌, ◌++◌, map, length, get_or, take, sym, refl, ap, ◌∙◌, subst, inl, inr, arith}
+use Rattle.std.specs.declared.iter.Rev.{Rev}
+use Rattle.std.specs.declared.ops.RangeInclusive.{RangeInclusive}
+use Rattle.std.specs.Iterator.Adapters.{rev_source, rev_steps}
+use Rattle.std.specs.List.{find, range_with_len}
+use Rattle.std.specs.Option.{MatchOption, unwrap_or}
+use Rattle.std.specs.Range.{range_inclusive_start, range_inclusive_end, range_inclusive_exhausted, range_inclusive_len, range_inclusive_left, range_inclusive_steps_back}
+use Rattle.std.proofs.lemmas.Iterator.{YieldsList}
+use Rattle.std.proofs.lemmas.Iterator.Consumers.{YieldsList-from_shown}
+use Rattle.std.proofs.lemmas.Bool.{cases_Bool, cases_lt, both_ways, not-false, not-true, leb-true, le-leb, lt-leb, cond-true, cond-false, cond_both}
 use Rattle.std.proofs.lemmas.List.{length-take-le, length-append, length-map}
 use Rattle.rules.specs.Kinds.{Laws}
 use Rattle.rules.specs.Instances.{goal_of}
@@ -22,6 +29,49 @@ use Rattle.charts.proofs.Parts.{total_append}
 use Rattle.labels.proofs.Showing.{length-shown}
 use Rattle.labels.proofs.Tabling.{length_cells, table_room, tick_run}
 
+-- n ticks, from t down
+abbrev pub down : ℕ → ℕ → List ℕ
+down t zero = []
+down t (suc n) = t ∷ down (t - 1) n
+
+-- what `a..=b` has left, from the back
+abbrev pub left_back : Rev (RangeInclusive ℕ) → List ℕ
+left_back s = down (range_inclusive_end (rev_source s)) (range_inclusive_left (λ a b. b - a) (rev_source s))
+
+abbrev pub steps_back : Rev (RangeInclusive ℕ) → Option ℕ → Rev (RangeInclusive ℕ) → Type 0
+steps_back = rev_steps (range_inclusive_steps_back (λ a b. b - a) (λ a b. b ≡ a + 1))
+
+next_back : (s t : Rev (RangeInclusive ℕ)) (x : ℕ) → steps_back s (Some x) t → left_back s ≡ x ∷ left_back t
+next_back s t x p =
+    let b = range_inclusive_end (rev_source s) in
+    let left = range_inclusive_left (λ a b. b - a) (rev_source t) in
+    let on : range_inclusive_left (λ a b. b - a) (rev_source s) ≡ suc left = omega (arith, p.1.1) in
+    ap (down b) on ∙ ap (λ y. y ∷ down (b - 1) left) (sym p.1.0) ∙ ap (λ l. x ∷ l) (elim (cases_Bool (range_inclusive_exhausted (rev_source t))) [
+      | inl spent ↦ let none : left ≡ 0 = ap (range_inclusive_len (λ a b. b - a) (range_inclusive_start (rev_source t)) (range_inclusive_end (rev_source t))) spent in ap (down (b - 1)) none ∙ sym (ap (down (range_inclusive_end (rev_source t))) none)
+      | inr going ↦ let e : b - 1 ≡ range_inclusive_end (rev_source t) = omega (arith, p.1.2 going) in ap (λ m. down m left) e
+    ])
+
+pub YieldsList-from_back : {s : Rev (RangeInclusive ℕ)} (xs : List ℕ) → left_back s ≡ xs → YieldsList steps_back (λ x. x) s xs
+YieldsList-from_back {s} xs e = subst (YieldsList steps_back (λ x. x) s) e (YieldsList-from_shown steps_back (λ x. x) left_back (λ s t p. ap (λ n. length (down (range_inclusive_end (rev_source s)) n)) p.1.0) (λ s x t p. next_back s t x p) s)
+
+-- the first found from t down is the last there is
+last_found : (test : ℕ → Bool) (t n : ℕ) → n ≤ t → MatchOption (find test (down t n)) ((k : ℕ) → t < k + n → k ≤ t → test k ≡ false) (λ r. (r ≤ t) × (test r ≡ true) × ((k : ℕ) → r < k → k ≤ t → test k ≡ false))
+last_found test t zero le = λ k lo hi. absurd (omega arith)
+last_found test t (suc n) le = elim (cases_Bool (test t)) [
+  | inl yes' ↦ rw yes' (omega arith, yes', λ k lo hi. absurd (omega arith))
+  | inr no' ↦ rw no' (more no' (find test (down (t - 1) n)) (last_found test (t - 1) n (omega arith)))
+]
+  where
+    at_or_below : test t ≡ false → (k : ℕ) → k ≤ t → (k ≤ t - 1 → test k ≡ false) → test k ≡ false
+    at_or_below no' k le' h = elim (cases_lt k t) [
+      | inl lt ↦ h (omega arith)
+      | inr ge ↦ let same : t ≡ k = omega arith in ap test (sym same) ∙ no'
+    ]
+
+    more : test t ≡ false → (o : Option ℕ) → MatchOption o ((k : ℕ) → t - 1 < k + n → k ≤ t - 1 → test k ≡ false) (λ r. (r ≤ t - 1) × (test r ≡ true) × ((k : ℕ) → r < k → k ≤ t - 1 → test k ≡ false)) → MatchOption o ((k : ℕ) → t < k + suc n → k ≤ t → test k ≡ false) (λ r. (r ≤ t) × (test r ≡ true) × ((k : ℕ) → r < k → k ≤ t → test k ≡ false))
+    more no' None h = λ k lo hi. at_or_below no' k hi (λ low. h k (omega arith) low)
+    more no' (Some r) h = (omega (arith, h.0), h.1, λ k lo hi. at_or_below no' k hi (λ low. h.2 k lo low))
+
 module _ {C : Type 0} (a : Asked C) where
   -- the tick after which the cart may be at its goal, where it may not be there at that tick
   pub stands : (r : ℕ) → r ≤ a.inst.horizon → ((s : ℕ) → r < s → s ≤ a.inst.horizon → may_be_at a (goal_of a.inst a.cart) s ≡ true) → (r ≡ 0) ⊎ (may_be_at a (goal_of a.inst a.cart) r ≡ false) → StandsFrom a r
@@ -39,12 +89,17 @@ module _ {C : Type 0} (a : Asked C) where
         | inr ge ↦ stands_from a.inst a.cart a.constraints t (h - t) (λ s l u. after s (omega arith) (omega arith)) ∙ sym (le-leb r t ge)
       ]
 
-  -- one tick less
-  pub stands_more : (tick g : ℕ) → 0 < tick → g ≡ goal_of a.inst a.cart → may_be_at a g tick ≡ true → ((s : ℕ) → tick < s → s ≤ a.inst.horizon → may_be_at a (goal_of a.inst a.cart) s ≡ true) → (s : ℕ) → tick - 1 < s → s ≤ a.inst.horizon → may_be_at a (goal_of a.inst a.cart) s ≡ true
-  stands_more tick g some e may after s lt le = elim (cases_lt tick s) [
-    | inl later ↦ after s later le
-    | inr here ↦ let same : tick ≡ s = omega arith in ap (λ p. may_be_at a p s) (sym e) ∙ ap (may_be_at a g) (sym same) ∙ may
-  ]
+  -- the same of the last tick at which the cart may not be at its goal
+  pub stands_after : (r : Option ℕ) → r ≡ find (λ t. not (may_be_at a (goal_of a.inst a.cart) t)) (down a.inst.horizon a.inst.horizon) → StandsFrom a (unwrap_or r 0)
+  stands_after r is =
+      let goal = goal_of a.inst a.cart in
+      let free : (t : ℕ) → not (may_be_at a (goal_of a.inst a.cart) t) ≡ false → may_be_at a (goal_of a.inst a.cart) t ≡ true = λ t no. not-false (may_be_at a goal t) no in
+      let held = subst (λ o. MatchOption o ((k : ℕ) → a.inst.horizon < k + a.inst.horizon → k ≤ a.inst.horizon → not (may_be_at a goal k) ≡ false) (λ t. (t ≤ a.inst.horizon) × (not (may_be_at a goal t) ≡ true) × ((k : ℕ) → t < k → k ≤ a.inst.horizon → not (may_be_at a goal k) ≡ false))) (sym is) (last_found (λ t. not (may_be_at a goal t)) a.inst.horizon a.inst.horizon (omega arith)) in
+      by_case r held
+    where
+      by_case : (o : Option ℕ) → MatchOption o ((k : ℕ) → a.inst.horizon < k + a.inst.horizon → k ≤ a.inst.horizon → not (may_be_at a (goal_of a.inst a.cart) k) ≡ false) (λ t. (t ≤ a.inst.horizon) × (not (may_be_at a (goal_of a.inst a.cart) t) ≡ true) × ((k : ℕ) → t < k → k ≤ a.inst.horizon → not (may_be_at a (goal_of a.inst a.cart) k) ≡ false)) → StandsFrom a (unwrap_or o 0)
+      by_case None h = stands 0 (omega arith) (λ s lt le. not-false _ (h s (omega arith) le)) (inl refl)
+      by_case (Some t) h = stands t h.0 (λ s lt le. not-false _ (h.2 s lt le)) (inr (not-true _ h.1))
 
 -- joined lists, where the first are empty, and where each is the same
 module _ {X : Type 0} where

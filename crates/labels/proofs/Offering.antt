@@ -2,7 +2,9 @@
 -- Assumes nothing.
 use denote.Ref.{Bor}
 use Rattle.std.proofs.Common.{◌≡◌, ℕ, zero, suc, ◌+◌, ◌-◌, ◌*◌, ◌<◌, ◌≤◌, Bool, true, cond, not, ◌&&◌, ◌||◌, List, [], ◌∷◌, ◌++◌, map, length, get_or, take, drop, replicate, Some, None, Option, sym, refl, ap, ◌∙◌, inl, inr, mul-le-mul_right, suc-mul, arith}
-use Rattle.std.specs.List.{filter, list_any, range_with_len}
+use Rattle.std.specs.Iterator.{SkipsThenYields, YieldsFirstBy}
+use Rattle.std.specs.List.{filter, list_any, range_with_len, slice_get}
+use Rattle.std.proofs.lemmas.Iterator.Consumers.{nth_from_yields_List, YieldsList-from_first}
 use Rattle.std.proofs.lemmas.Bool.{cases_Bool}
 use Rattle.std.proofs.lemmas.List.{length-append, length-map, length-drop, length-take, get_or-take, get_or-drop, get_or-map, at_drop_more, at_drop_all, take-map, drop-map, map-append}
 use Rattle.std.proofs.lemmas.List.Folds.{list_any-append}
@@ -27,24 +29,9 @@ use Rattle.labels.proofs.Showing.{length-shown, costs_shown}
 abbrev label_costs : {C : Type 0} → List (Label C) → List C
 label_costs ls = map (λ l. l.cost) ls
 
-module _ {C : Type 0} (k : Kind C) (c : C) where
-  -- some cost dominates c
-  abbrev pub undercut : List C → Bool
-  undercut cs = list_any (λ a. undercuts k a c) cs
-
-  by_rows : (rows : List (LabelRow C)) → list_any (λ r. undercuts k r.cost c) rows ≡ undercut (map (λ r. r.cost) rows)
-  by_rows [] = refl
-  by_rows (r ∷ rows) = ap (λ b. undercuts k r.cost c || b) (by_rows rows)
-
-  -- domination goes by the costs
-  by_labels : (ls : List (Label C)) → dominated k ls c ≡ undercut (label_costs ls)
-  by_labels [] = refl
-  by_labels (l ∷ ls) = ap (λ b. undercuts k l.cost c || b) (by_labels ls)
-
-  dominated-append : (xs ys : List (Label C)) → dominated k (xs ++ ys) c ≡ (dominated k xs c || dominated k ys c)
-  dominated-append xs ys =
-      by_labels (xs ++ ys) ∙ ap undercut (map-append (λ l. l.cost) xs ys) ∙ list_any-append (λ a. undercuts k a c) (label_costs xs) (label_costs ys)
-      ∙ sym (ap (λ b. b || dominated k ys c) (by_labels xs) ∙ ap (λ b. undercut (label_costs xs) || b) (by_labels ys))
+any_map : {X Y : Type 0} (p : Y → Bool) (f : X → Y) (xs : List X) → list_any (λ x. p (f x)) xs ≡ list_any p (map f xs)
+any_map p f [] = refl
+any_map p f (x ∷ xs) = ap (λ b. p (f x) || b) (any_map p f xs)
 
 module _ {C : Type 0} where
   standing_costs : (n g : ℕ) (ls : List (Label C)) → label_costs (standing n g ls) ≡ label_costs ls
@@ -81,15 +68,20 @@ module _ {C : Type 0} (k : Kind C) (c : C) (rows : List (LabelRow C)) (starts : 
   abbrev pub tick_dominates : ℕ → Bool
   tick_dominates t = list_any (λ r. undercuts k r.cost c) (run_of starts l t rows)
 
+  -- whether a label dominates goes by its cost
+  here : (t : ℕ) → tick_dominates t ≡ dominated k (standing (l.horizon - t) l.goal (run_of starts l t (shown rows))) c
+  here t =
+      let test = λ (a : C). undercuts k a c in
+      any_map test (λ r. r.cost) (run_of starts l t rows)
+      ∙ ap (list_any test) (sym (standing_costs (l.horizon - t) l.goal (run_of starts l t (shown rows)) ∙ run_costs rows starts l t))
+      ∙ sym (any_map test (λ e. e.cost) (standing (l.horizon - t) l.goal (run_of starts l t (shown rows))))
+
   pub ticks_dominate : (ts : List ℕ) → list_any tick_dominates ts ≡ dominated k (joined_lists (map (λ s. standing (l.horizon - s) l.goal (run_of starts l s (shown rows))) ts)) c
   ticks_dominate [] = refl
   ticks_dominate (t ∷ ts) =
-      let here = standing (l.horizon - t) l.goal (run_of starts l t (shown rows)) in
       let rest = joined_lists (map (λ s. standing (l.horizon - s) l.goal (run_of starts l s (shown rows))) ts) in
-      ap (λ b. b || list_any tick_dominates ts)
-      (by_rows k c (run_of starts l t rows) ∙ ap (undercut k c) (sym (run_costs rows starts l t) ∙ sym (standing_costs (l.horizon - t) l.goal (run_of starts l t (shown rows)))) ∙ sym (by_labels k c here))
-      ∙ ap (λ b. dominated k here c || b) (ticks_dominate ts)
-      ∙ sym (dominated-append k c here rest)
+      let now = standing (l.horizon - t) l.goal (run_of starts l t (shown rows)) in
+      ap (λ b. b || list_any tick_dominates ts) (here t) ∙ ap (λ b. dominated k now c || b) (ticks_dominate ts) ∙ sym (list_any-append (λ e. undercuts k e.cost c) now rest)
 
 module _ {C : Type 0} (k : Kind C) (skip : C → Bool) where
   -- looking at whether a cost goes first changes nothing
@@ -184,3 +176,7 @@ module _ {C : Type 0} (k : Kind C) (laws : Laws k) (s : Offers C) where
 
   pub taken : (o : Offer C) → Chooses k s.arrivals.now s.last None (arrived s.arrivals.now) (Some o) → offers_left k s ≡ shown_offer o ∷ offers_left k (record { arrivals = s.arrivals; last = Some o.cost })
   taken o h = picks_after k laws s.last (arrived s.arrivals.now) (Some (shown_offer o)) h
+
+-- the offer with a number, as `nth` gives it
+pub nth_offer : {C : Type 0} (k : Kind C) (s t : Offers C) (r : Option (Offer C)) (n : ℕ) (xs : List (Label C)) → offers_left k s ≡ xs → SkipsThenYields (YieldsFirstBy shown_offer (offers_left k)) s n r t → shown_lead r ≡ slice_get xs n
+nth_offer k s t r n xs left ran = nth_from_yields_List r t n ran (YieldsList-from_first shown_offer (offers_left k) xs left)

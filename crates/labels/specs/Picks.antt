@@ -1,6 +1,7 @@
 -- The next of a front: the first in the kind's order of the entries that are not skipped, and among equal costs the earliest.
 -- Assumes nothing.
 use Rattle.std.specs.Prelude.{Bool, true, false, cond, not, ◌&&◌, ◌||◌, List, [], ◌∷◌, Some, None, Option}
+use Rattle.std.specs.List.{list_any}
 use Rattle.rules.specs.Kinds.{Kind}
 use Rattle.rules.specs.Fronts.{Entry, covered}
 
@@ -23,8 +24,7 @@ module _ {C B : Type 0} (k : Kind C) where
 
   -- some entry dominates c
   abbrev pub dominated : List (Entry C B) → C → Bool
-  dominated [] c = false
-  dominated (x ∷ xs) c = undercuts k x.cost c || dominated xs c
+  dominated xs c = list_any (λ x. undercuts k x.cost c) xs
 
   -- the cost of the last entry, and what was there where there is none
   abbrev pub last_cost : Option C → List (Entry C B) → Option C

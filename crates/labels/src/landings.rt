@@ -15,14 +15,10 @@ fn stands_from<F: Floor, C: CostKind, B: Constrains>(query: &Query<'_, F, C, B>)
     ensures { StandsFrom (asked F.Floor.moves C.CostKind.kind B.Constrains.constraint query.now) result }
 {
     let place = query.carts[query.cart as usize].goal;
-    let mut tick = query.horizon;
-    while tick > 0 {
-        if !is_free(query, place, tick) {
-            return tick;
-        }
-        tick -= 1;
-    }
-    0
+    (1..=query.horizon)
+        .rev()
+        .find(|tick| !is_free(query, place, *tick))
+        .unwrap_or(0)
 }
 
 // Where the labels that arrive stand.

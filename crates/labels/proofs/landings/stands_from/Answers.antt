@@ -1,23 +1,23 @@
-use Rattle.std.proofs.Common.{◌≡◌, sym, ap, ◌∙◌, inl, inr, arith}
+use Rattle.std.proofs.Common.{◌≡◌, ◌+◌, ◌-◌, false, not, get_or, sym, ap, ◌∙◌, subst, arith, rules, tests}
+use Rattle.std.specs.List.{find}
+use Rattle.std.specs.Range.{range_inclusive_end, range_inclusive_len, range_inclusive_left}
+use Rattle.std.proofs.lemmas.Iterator.Adapters.{option_map_id}
+use Rattle.std.proofs.lemmas.Iterator.Search.{find_from_yields_List}
+use Rattle.labels.specs.Arrivals.{StandsFrom}
 use Rattle.labels.specs.Queries.{asked, may_be_at}
-use Rattle.labels.proofs.Arriving.{stands, stands_more}
+use Rattle.labels.proofs.Arriving.{down, YieldsList-from_back, stands_after}
 use Rattle.labels.proofs.Tabling.{goal_at}
 use Rattle.labels.proofs.landings.stands_from.Goals as goal
-
-pub returns-then-not-is_free : goal.returns-then-not-is_free
-returns-then-not-is_free g c =
-    let a = asked g.F.Floor.moves g.C.CostKind.kind g.B.Constrains.constraint c.args.query.now in
-    let goal = goal_at c.args.query.now.carts.now a.cart (record { start = 0; goal = 0 }) c.requires in
-    stands a c.loop-tick.tick c.loop-tick.invariant.0 c.loop-tick.invariant.1 (inr (ap (λ p. may_be_at a p c.loop-tick.tick) goal ∙ sym c.if-not-is_free.ensures))
-
-pub loop-tick-preserved : goal.loop-tick-preserved
-loop-tick-preserved g c =
-    let a = asked g.F.Floor.moves g.C.CostKind.kind g.B.Constrains.constraint c.args.query.now in
-    let goal = goal_at c.args.query.now.carts.now a.cart (record { start = 0; goal = 0 }) c.requires in
-    (omega (arith, c.loop-tick.invariant.0), stands_more a c.loop-tick.tick _ c.loop-tick-test.true (sym goal) (sym c.if-not-is_free.ensures) c.loop-tick.invariant.1)
 
 pub returns : goal.returns
 returns g c =
     let a = asked g.F.Floor.moves g.C.CostKind.kind g.B.Constrains.constraint c.args.query.now in
-    let none : c.loop-tick.tick ≡ 0 = omega (arith, c.loop-tick-test.false) in
-    stands a 0 (omega arith) (λ s lt le. c.loop-tick.invariant.1 s (omega arith) le) (inl (λ j. 0))
+    let h = c.args.query.now.horizon in
+    let place = (get_or c.args.query.now.carts.now c.args.query.now.cart (record { start = 0; goal = 0 })).goal in
+    let all : h - 1 + 1 - (1 - h) ≡ h = omega arith in
+    let made : down (range_inclusive_end c.new.result) (range_inclusive_left (λ x y. y - x) c.new.result) ≡ down h (range_inclusive_len (λ x y. y - x) 1 h false) = λ j. down (c.new.ensures.end j) (range_inclusive_len (λ x y. y - x) (c.new.ensures.start j) (c.new.ensures.end j) (c.new.ensures.exhausted j)) in
+    let ticks = ap (λ r. down (range_inclusive_end r) (range_inclusive_left (λ x y. y - x) r)) c.rev.ensures.source ∙ made ∙ ap (down h) all in
+    let found = find_from_yields_List (λ t. not (may_be_at a place t)) _ _ c.find.result c.find.ensures.ran (YieldsList-from_back (down h h) ticks) (λ t b f q. (search (rules, tests), let e : b ≡ not (may_be_at a place q.shown.now) = search (rules, tests) in e ∙ ap (λ m. not (may_be_at a place m)) q.shows)) in
+    let goal = goal_at c.args.query.now.carts.now a.cart (record { start = 0; goal = 0 }) c.requires in
+    let is = sym (option_map_id c.find.result) ∙ found ∙ ap (λ p. find (λ t. not (may_be_at a p t)) (down h h)) (sym goal) in
+    subst (StandsFrom a) (sym c.unwrap_or.ensures) (stands_after a c.find.result is)
