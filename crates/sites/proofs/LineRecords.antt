@@ -33,12 +33,6 @@ line_plain r h =
     let m = mark_above r in
     ((λ e. omega (arith, m.0)), ((λ e. omega (arith, m.1)), numbers_plain (numbers r) h))
 
--- where there is no newline, there is no record
-pub no_line : (bs : List ℕ) → Without 10 bs → (r : Record) (more : List ℕ) → Fitting r → bs ≡ record_text r ++ more → ⊥
-no_line bs w r more fits e =
-    let P : List ℕ → Type 0 = Without 10 in
-    not_without 10 (line_text r) more (subst P (e ∙ append_assoc (line_text r) (10 ∷ []) more) w)
-
 module _ (bs line below : List ℕ) (e : bs ≡ line ++ (10 ∷ below)) where
   -- where the first line holds no record, none is at the front
   pub no_record : Without 10 line → ((r : Record) → Fitting r → line ≡ line_text r → ⊥) → (r : Record) (more : List ℕ) → Fitting r → bs ≡ record_text r ++ more → ⊥

@@ -37,7 +37,7 @@ impl From<FloorRefusal> for SiteFault {
 
 impl SiteFault {
     // The refusal of this line.
-    pub fn at(self, line: u16) -> SiteRefusal
+    pub(crate) fn at(self, line: u16) -> SiteRefusal
         ensures { result ≡ record { line = line; fault = self } }
     {
         SiteRefusal { line, fault: self }
