@@ -1,10 +1,10 @@
-use Rattle.std.proofs.Common.{Ok, Err, Result, subst, arith, rules}
+use Rattle.std.proofs.Common.{Ok, Err, Result, subst, rules}
 use Rattle.std.proofs.lemmas.Result.{err_from_is_err_and}
 use Rattle.sites.specs.declared.reading.Reading.{Reading}
 use Rattle.sites.specs.declared.refusal.SiteFault.{SiteFault}
 use Rattle.sites.specs.Holding.{Took}
 use Rattle.sites.proofs.Results.{ok_was, fault_was}
-use Rattle.sites.proofs.Reaching.{front_long, refused_at, misread_here, next_refused, next_reached, all_read}
+use Rattle.sites.proofs.Reaching.{refused_at, misread_here, next_refused, next_reached, all_read}
 use Rattle.sites.proofs.bodies.read_records.Goals as goal
 
 pub returns-in_err-reading-2 : goal.returns-in_err-reading-2
