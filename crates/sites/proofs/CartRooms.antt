@@ -9,7 +9,7 @@ use Rattle.carts.specs.declared.cart.Cart.{Cart as CartRow}
 use Rattle.carts.specs.Drafts.{cart_refusal}
 
 pub not_refused : {X : Type 0} (b : Bool) (x : X) (o : Option X) → cond b (Some x) o ≡ None → b ≡ false
-not_refused true x o e = let z : ◌≡◌ {A = ℕ} 0 1 = cc in absurd (omega arith)
+not_refused true x o e = cc
 not_refused false x o e = refl
 
 cond_same : {X : Type 0} (a b : Bool) (x y : X) → a ≡ b → cond a x y ≡ cond b x y

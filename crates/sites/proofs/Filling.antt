@@ -1,12 +1,9 @@
 -- Rows written one after another at the front of a table. Assumes nothing.
-use Rattle.std.proofs.Common.{◌≡◌, ℕ, suc, ◌+◌, ◌<◌, List, [], ◌∷◌, ◌++◌, length, take, drop, set, sym, refl, ap, ◌∙◌, add-zero, add-one, arith}
-use Rattle.std.proofs.lemmas.List.{append_assoc, drop_at, drop-drop, length-append, length-set, set_split, take-append-drop, take_at, take_more_set, drop-set-lt}
+use Rattle.std.proofs.Common.{◌≡◌, ℕ, suc, ◌+◌, ◌<◌, List, [], ◌∷◌, ◌++◌, length, take, drop, set, sym, refl, ap, ◌∙◌, add-one, arith}
+use Rattle.std.proofs.lemmas.List.{append_assoc, drop_at, drop-drop, length-append, length-set, set_split, take_at, take_more_set, drop-set-lt}
 use Rattle.sites.specs.Writing.{put, filled}
 
 module _ {X : Type 0} (table : List X) (n : ℕ) where
-  pub put_none : put table n [] ≡ table
-  put_none = ap (λ m. take n table ++ drop m table) (add-zero n) ∙ take-append-drop n table
-
   pub put_one : (x : X) → n < length table → set table n x ≡ put table n (x ∷ [])
   put_one x h = set_split table n x h ∙ ap (λ m. take n table ++ (x ∷ drop m table)) (sym (add-one n))
 

@@ -1,5 +1,5 @@
 -- Bytes are read in one way only. Assumes nothing.
-use Rattle.std.proofs.Common.{◌≡◌, ℕ, ◌≤◌, List, [], ◌∷◌, ◌++◌, Some, None, Option, sym, refl, ap, ◌∙◌, subst, inl, inr, arith}
+use Rattle.std.proofs.Common.{◌≡◌, ℕ, ◌≤◌, List, [], ◌∷◌, ◌++◌, Some, None, Option, sym, refl, ap, ◌∙◌, subst, inl, inr}
 use Rattle.std.proofs.lemmas.List.{append_assoc, append-nil}
 use Rattle.sites.specs.declared.records.Record.{Record}
 use Rattle.sites.specs.declared.refusal.SiteFault.{SiteFault}
@@ -25,9 +25,9 @@ module _ (rooms : Rooms) where
   ends_same : (before : List Record) (left : List ℕ) (o p : Option SiteFault) → Ends before left o → Ends before left p → o ≡ p
   ends_same before left None None a b = refl
   ends_same before left None (Some g) a (inl m) = absurd (m.1.no_end a.0 a.1)
-  ends_same before left None (Some g) a (inr b) = let e = a.0 in let t = b.text in let z : ◌≡◌ {A = ℕ} 0 1 = cc in absurd (omega arith)
+  ends_same before left None (Some g) a (inr b) = let e = a.0 in let t = b.text in cc
   ends_same before left (Some f) None (inl m) b = absurd (m.1.no_end b.0 b.1)
-  ends_same before left (Some f) None (inr a) b = let e = b.0 in let t = a.text in let z : ◌≡◌ {A = ℕ} 0 1 = cc in absurd (omega arith)
+  ends_same before left (Some f) None (inr a) b = let e = b.0 in let t = a.text in cc
   ends_same before left (Some f) (Some g) (inl m) (inl n) = ap Some (m.0 ∙ sym n.0)
   ends_same before left (Some f) (Some g) (inl m) (inr b) = absurd (m.1.no_record b.«record» b.more b.fitting b.follows b.text)
   ends_same before left (Some f) (Some g) (inr a) (inl n) = absurd (n.1.no_record a.«record» a.more a.fitting a.follows a.text)
@@ -35,15 +35,14 @@ module _ (rooms : Rooms) where
 
   -- reading does not end before a record that stands
   goes_on : (before : List Record) (left : List ℕ) (o : Option SiteFault) (r : Record) (more : List ℕ) → Stands rooms before r → left ≡ record_text r ++ more → Ends before left o → ⊥
-  goes_on before left None r more s e h = let k = h.0 in let z : ◌≡◌ {A = ℕ} 0 1 = cc in omega arith
+  goes_on before left None r more s e h = let k = h.0 in cc
   goes_on before left (Some f) r more s e (inl m) = m.1.no_record r more s.fitting s.follows e
   goes_on before left (Some f) r more s e (inr a) =
       let same = (record_same a.«record» r a.more more a.fitting s.fitting (sym a.text ∙ e)).0 in
       let p = a.refused in
       let q = s.taken in
       let w = ap (fault_of rooms before) same in
-      let z : ◌≡◌ {A = ℕ} 0 1 = cc in
-      omega arith
+      cc
 
   -- two readings of the same bytes are the same
   pub one_way : (done rs ss : List Record) (l m : List ℕ) (o p : Option SiteFault) → EachAfter (Stands rooms) done rs → EachAfter (Stands rooms) done ss → records_text rs ++ l ≡ records_text ss ++ m → Ends (done ++ rs) l o → Ends (done ++ ss) m p → (rs ≡ ss) × (o ≡ p)

@@ -2,6 +2,7 @@
 use Rattle.std.proofs.Common.{◌≡◌, ℕ, ◌≤◌, List, [], ◌∷◌, ◌++◌, map, sym, refl, ap, ◌∙◌, subst, arith}
 use native.Mathlib.Nat.{min-eq_left}
 use Rattle.std.specs.List.{flat_map, AllByRecursion}
+use Rattle.std.proofs.lemmas.Grind.{flat_map-append}
 use Rattle.std.proofs.lemmas.List.{append_assoc, append-nil}
 use Rattle.rules.proofs.Members.{all_of_map}
 use Rattle.costs.specs.declared.pair.Pair.{Pair}
@@ -13,7 +14,7 @@ use Rattle.sites.specs.declared.records.Record.{Record}
 use Rattle.sites.specs.declared.records.Record.TheVariants.{Horizon, Places, Lane, BothLanes, Tariff, Cart}
 use Rattle.sites.specs.Records.{Fitting}
 use Rattle.sites.specs.Sites.{cost_of, lanes_in, tariff_in, carts_in, SiteData, said, rank, last_rank, MayFollow, EachAfter, Placed, WellFormed}
-use Rattle.sites.proofs.RecordLists.{joined_append, last_push}
+use Rattle.sites.proofs.RecordLists.{last_push}
 use Rattle.sites.specs.Promises.{tariff_record, cart_record, site_records}
 
 joined_none : {X Y Z : Type 0} (f : Y → List Z) (g : X → Y) → ((x : X) → f (g x) ≡ []) → (xs : List X) → flat_map f (map g xs) ≡ []
@@ -41,8 +42,8 @@ cost_same c p q =
 module _ (s : SiteData) where
   rest_of : {Y : Type 0} (f : Record → List Y) → flat_map f (map Lane s.lanes ++ (map tariff_record s.tariff ++ map cart_record s.carts)) ≡ flat_map f (map Lane s.lanes) ++ (flat_map f (map tariff_record s.tariff) ++ flat_map f (map cart_record s.carts))
   rest_of f =
-      joined_append f (map Lane s.lanes) _
-      ∙ ap (λ t. flat_map f (map Lane s.lanes) ++ t) (joined_append f (map tariff_record s.tariff) (map cart_record s.carts))
+      flat_map-append f (map Lane s.lanes) _
+      ∙ ap (λ t. flat_map f (map Lane s.lanes) ++ t) (flat_map-append f (map tariff_record s.tariff) (map cart_record s.carts))
 
   lanes-back : (said (site_records s)).lanes ≡ s.lanes
   lanes-back =

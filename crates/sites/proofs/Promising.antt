@@ -1,5 +1,5 @@
 -- The promises of the format and of its reading. Assumes nothing.
-use Rattle.std.proofs.Common.{◌≡◌, ℕ, ◌+◌, List, [], ◌++◌, length, Some, None, sym, refl, ap, ◌∙◌, arith}
+use Rattle.std.proofs.Common.{◌≡◌, ℕ, ◌+◌, List, [], ◌++◌, length, Some, None, sym, refl, ap, ◌∙◌}
 use Rattle.std.specs.List.{AllByRecursion}
 use Rattle.std.proofs.lemmas.List.{append-nil}
 use Rattle.sites.specs.declared.records.Record.{Record}
@@ -54,8 +54,7 @@ module _ (rooms : Rooms) where
             (one_way rooms [] rs ss [] [] None None a.stand b.stand (sym (to_end bytes rs a) ∙ to_end bytes ss b) (refl, a.whole) (refl, b.whole)).0;
         not_both = λ bytes rs line fault a b.
             let same = (one_way rooms [] rs b.before [] b.left None (Some fault) a.stand b.stand (sym (to_end bytes rs a) ∙ b.text) (refl, a.whole) b.why).1 in
-            let z : ◌≡◌ {A = ℕ} 0 1 = cc in
-            omega arith;
+            cc;
         one_refused = λ bytes l m f g a b.
             let same = one_way rooms [] a.before b.before a.left b.left (Some f) (Some g) a.stand b.stand (sym a.text ∙ b.text) a.why b.why in
             let lines = same.0 in

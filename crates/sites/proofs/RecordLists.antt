@@ -1,17 +1,14 @@
 -- Lists of records: what their parts are one record on, and records that each stand in a relation to those before them. Assumes nothing.
 use Rattle.std.proofs.Common.{◌≡◌, ℕ, List, [], ◌∷◌, ◌++◌, sym, refl, ap, ◌∙◌, subst}
 use Rattle.std.specs.List.{flat_map, AllByRecursion}
+use Rattle.std.proofs.lemmas.Grind.{flat_map-append}
 use Rattle.std.proofs.lemmas.List.{append_assoc, append-nil}
 use Rattle.sites.specs.declared.records.Record.{Record}
 use Rattle.sites.specs.Records.{record_text, records_text}
 use Rattle.sites.specs.Sites.{rank, last_rank, EachAfter}
 
-pub joined_append : {X Y : Type 0} (f : X → List Y) (xs ys : List X) → flat_map f (xs ++ ys) ≡ flat_map f xs ++ flat_map f ys
-joined_append f [] ys = refl
-joined_append f (x ∷ xs) ys = ap (λ t. f x ++ t) (joined_append f xs ys) ∙ sym (append_assoc (f x) (flat_map f xs) (flat_map f ys))
-
 pub part_push : {Y : Type 0} (f : Record → List Y) (before : List Record) (r : Record) → flat_map f (before ++ r ∷ []) ≡ flat_map f before ++ f r
-part_push f before r = joined_append f before (r ∷ []) ∙ ap (λ t. flat_map f before ++ t) (append-nil (f r))
+part_push f before r = flat_map-append f before (r ∷ []) ∙ ap (λ t. flat_map f before ++ t) (append-nil (f r))
 
 pub text_push : (rs : List Record) (r : Record) (more : List ℕ) → records_text (rs ++ r ∷ []) ++ more ≡ records_text rs ++ (record_text r ++ more)
 text_push rs r more = ap (λ t. t ++ more) (part_push record_text rs r) ∙ append_assoc (records_text rs) (record_text r) more

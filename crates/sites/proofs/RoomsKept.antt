@@ -19,7 +19,7 @@ not_lacking rows used wanted others e = ltb-false rows (used + wanted) (not_refu
 
 no_draft_fault : (o : Option DraftRefusal) → draft_fault o ≡ None → o ≡ None
 no_draft_fault None e = refl
-no_draft_fault (Some x) e = let z : ◌≡◌ {A = ℕ} 0 1 = cc in absurd (omega arith)
+no_draft_fault (Some x) e = cc
 
 -- each record adds rows that are there
 abbrev Adds : {X : Type 0} → (Record → List X) → Rooms → ℕ → Type 0

@@ -1,6 +1,7 @@
 -- The second reading of a site, which writes the rows of its lanes and tariff lines. Assumes nothing.
 use Rattle.std.proofs.Common.{◌≡◌, ℕ, ◌+◌, ◌≤◌, List, [], ◌∷◌, ◌++◌, length, drop, sym, refl, ap, ◌∙◌, subst, arith}
 use Rattle.std.specs.List.{flat_map, AllByRecursion}
+use Rattle.std.proofs.lemmas.Grind.{flat_map-append}
 use Rattle.std.proofs.lemmas.List.{append_assoc, append-nil, length-append, length-drop}
 use Rattle.costs.specs.declared.pair.Pair.{Pair}
 use Rattle.costs.specs.declared.total.Total.{Total}
@@ -12,7 +13,7 @@ use Rattle.sites.specs.Reading.{Front}
 use Rattle.sites.specs.Sites.{lanes_in, tariff_in}
 use Rattle.sites.specs.Writing.{put, filled, Writable, RowsWritten}
 use Rattle.sites.proofs.Filling.{put-filled}
-use Rattle.sites.proofs.RecordLists.{joined_append, part_push}
+use Rattle.sites.proofs.RecordLists.{part_push}
 use Rattle.sites.proofs.Texts.{record_same, records_same}
 
 -- one table: so many of its rows are written, those of the records that are done
@@ -45,7 +46,7 @@ none_passed bytes lanes tariff w =
 room_for : {X : Type 0} (part : Record → List X) (done left all : List Record) (r : Record) (n rows : ℕ) → done ++ r ∷ left ≡ all → n ≡ length (flat_map part done) → length (flat_map part all) ≤ rows → n + length (part r) ≤ rows
 room_for part done left all r n rows whole count room =
     let a = ap (λ rs. length (flat_map part rs)) (sym whole) in
-    let b = ap length (joined_append part done (r ∷ left)) in
+    let b = ap length (flat_map-append part done (r ∷ left)) in
     let c = length-append (flat_map part done) (part r ++ flat_map part left) in
     let d = length-append (part r) (flat_map part left) in
     omega arith
@@ -83,7 +84,7 @@ module _ (bytes rest : List ℕ) (n m : ℕ) (lanes₀ lanes : List LaneRow) (ta
     next_is = go p.left p.whole p.text left_fitting
       where
         go : (left : List Record) → p.done ++ left ≡ p.site.records → rest ≡ records_text left → AllByRecursion Fitting left → Next r below
-        go [] w t h = let e = sym t ∙ f.text in let z : ◌≡◌ {A = ℕ} 0 1 = cc in absurd (omega arith)
+        go [] w t h = let e = sym t ∙ f.text in cc
         go (s ∷ left) w t h =
             let same = record_same r s below (records_text left) f.fitting h.0 (sym f.text ∙ t) in
             record {

@@ -17,9 +17,9 @@ Stops (x ∷ xs) = x < 48
 -- what stands before the first byte below the digits can be read off, and so can what stands from there on
 pub split_digits : (xs ys u v : List ℕ) → AllByRecursion (λ x. 48 ≤ x) xs → AllByRecursion (λ x. 48 ≤ x) ys → Stops u → Stops v → xs ++ u ≡ ys ++ v → (xs ≡ ys) × (u ≡ v)
 split_digits [] [] u v p q s t e = (refl, e)
-split_digits [] (y ∷ ys) [] v p q s t e = let z : ◌≡◌ {A = ℕ} 0 1 = cc in absurd (omega arith)
+split_digits [] (y ∷ ys) [] v p q s t e = cc
 split_digits [] (y ∷ ys) (x ∷ u) v p q s t e = let h : x ≡ y = cc in absurd (omega (arith, q.0))
-split_digits (x ∷ xs) [] u [] p q s t e = let z : ◌≡◌ {A = ℕ} 0 1 = cc in absurd (omega arith)
+split_digits (x ∷ xs) [] u [] p q s t e = cc
 split_digits (x ∷ xs) [] u (y ∷ v) p q s t e = let h : x ≡ y = cc in absurd (omega (arith, p.0))
 split_digits (x ∷ xs) (y ∷ ys) u v p q s t e =
     let tail : xs ++ u ≡ ys ++ v = cc in
@@ -86,8 +86,8 @@ record_same r s u v p q e =
 -- a text is that of one list of records at most
 pub records_same : (rs ss : List Record) → AllByRecursion Fitting rs → AllByRecursion Fitting ss → records_text rs ≡ records_text ss → rs ≡ ss
 records_same [] [] p q e = refl
-records_same [] (s ∷ ss) p q e = let z : ◌≡◌ {A = ℕ} 0 1 = cc in absurd (omega arith)
-records_same (r ∷ rs) [] p q e = let z : ◌≡◌ {A = ℕ} 0 1 = cc in absurd (omega arith)
+records_same [] (s ∷ ss) p q e = cc
+records_same (r ∷ rs) [] p q e = cc
 records_same (r ∷ rs) (s ∷ ss) p q e =
     let one = record_same r s (records_text rs) (records_text ss) p.0 q.0 e in
     let more = records_same rs ss p.1 q.1 one.1 in

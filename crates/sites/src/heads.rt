@@ -19,7 +19,8 @@ fn read_horizon(records: &mut Records) -> Result<Draft, SiteFault>
     Ok(Draft::start(horizon)?)
 }
 
-// The floor without lanes that the second record asks for.
+// The floor without lanes that the second record asks for. With `read_horizon` it shares no more than the call of `next`: one generic
+// function would take the variant and the call as closures, and be longer than both.
 fn read_places(records: &mut Records) -> Result<LaneFloor, SiteFault>
     ensures { PlacesRead records.old.rest.now records.new.rest.now result }
 {

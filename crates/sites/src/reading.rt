@@ -8,6 +8,7 @@ mod taking;
 #[derive(Drop)]
 pub struct Reading {
     pub site: Site,
+    // no heap here: as many rows as a draft may enter, and the draft counts those in use
     pub carts: [Cart; 6],
     // the last record's
     pub rank: Rank,

@@ -37,7 +37,7 @@ impl From<FloorRefusal> for SiteFault {
 
 impl SiteFault {
     // The refusal of this line.
-    pub fn at(self, line: u16) -> SiteRefusal
+    pub(crate) fn at(self, line: u16) -> SiteRefusal
         ensures { result ≡ record { line = line; fault = self } }
     {
         SiteRefusal { line, fault: self }
@@ -52,7 +52,7 @@ pub struct SiteRefusal {
 }
 
 impl SiteRefusal {
-    // The refusal's number, its line, the number of the refusal that it carries, and that one's row; 0 where there is none.
+    // The four numbers by which a page names it: the refusal's number, its line, the number of the refusal that it carries, and that one's row; 0 where there is none.
     pub fn numbers(self) -> [u16; 4]
         ensures { result ≡ refusal_numbers self }
     {

@@ -8,7 +8,7 @@ use crate::records::{Record, back};
 use costs::{Pair, Total, Worst};
 use floors::LaneRow;
 
-// A lent table, of which the first rows are written.
+// A lent table, of which so many first rows are written; there is no heap here for a `Vec`.
 #[derive(Drop)]
 pub struct Filling<'a, T> {
     table: &'a mut [T],

@@ -15,8 +15,7 @@ impl Reading {
         ensures { TookNext self rooms «record» result }
     {
         match record {
-            Record::Horizon(_) => Err(SiteFault::Misread),
-            Record::Places(_) => Err(SiteFault::Misread),
+            Record::Horizon(_) | Record::Places(_) => Err(SiteFault::Misread),
             Record::Lane(row) => self.take_lane(row, rooms),
             Record::BothLanes(row) => self.take_both(row, rooms),
             Record::Tariff { total, worst } => self.take_line(total, worst, rooms),
@@ -81,8 +80,8 @@ impl Reading {
         ensures taken { (s : SiteData) → Holds s self → CartTaken rows s start goal result }
         ensures kept { IfOk result (λ x. rank_number x.rank ≡ 5) }
     {
-        let room = rows.min(6);
         let mut carts = self.carts;
+        let room = rows.min(carts.len());
         self.site.draft = self
             .site
             .draft
