@@ -18,7 +18,7 @@ fn site_length(bytes: &[u8]) -> usize
     }
     bytes
         .windows(2)
-        .position(|pair| pair == b"\n-")
+        .position(|pair| matches!(pair, [b'\n', b'-']))
         .map_or(bytes.len(), |at| at + 1)
 }
 
