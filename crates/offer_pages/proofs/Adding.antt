@@ -1,6 +1,6 @@
 -- Texts that grow by one number, one offer or one cart.
 -- Assumes nothing.
-use Rattle.std.proofs.Common.{◌≡◌, ℕ, zero, suc, ◌+◌, ◌<◌, ◌≤◌, List, [], ◌∷◌, ◌++◌, length, get_or, take, Some, None, Ok, Err, decimal, Option, Result, sym, refl, ap, ◌∙◌, subst, arith}
+use Rattle.std.proofs.Common.{◌≡◌, ℕ, zero, suc, ◌+◌, ◌<◌, ◌≤◌, List, [], ◌∷◌, ◌++◌, length, get_or, take, Some, None, Ok, Err, IsSome, decimal, Option, Result, sym, refl, ap, ◌∙◌, subst, arith}
 use Rattle.std.specs.List.{range_with_len, flat_map, slice_get}
 use Rattle.std.specs.Option.{option_map}
 use Rattle.std.proofs.lemmas.List.FromFn.{map-range_with_len_more}
@@ -14,10 +14,11 @@ use Rattle.sites.specs.Records.{numbers_text}
 use Rattle.offer_pages.specs.Carts.{option_text, CartAdded, PageAdded}
 use Rattle.offer_pages.specs.Conditions.{Checked, FailsAt}
 use Rattle.offer_pages.specs.Texts.{heading_text, number_text, offer_text, cost_text, places_text, cart_text}
-use Rattle.offer_pages.specs.declared.fault.Stop.{Stop}
-use Rattle.offer_pages.specs.declared.fault.Stop.TheVariants.{Memory, Refused}
+use Rattle.offer_pages.specs.declared.fault.Fault.{Fault}
+use Rattle.pages.specs.declared.stop.Stop.{Stop}
+use Rattle.pages.specs.declared.stop.Stop.TheVariants.{Memory, Refused}
 
-numbers_joined : (ns : List ℕ) → numbers_text ns ≡ flat_map number_text ns
+pub numbers_joined : (ns : List ℕ) → numbers_text ns ≡ flat_map number_text ns
 numbers_joined [] = refl
 numbers_joined (n ∷ ns) = ap (λ t. 32 ∷ (decimal n ++ t)) (numbers_joined ns)
 
@@ -29,9 +30,6 @@ module _ {X : Type 0} (part : X → List ℕ) (xs : List X) where
 
   pub grown : (start was : List ℕ) (i : ℕ) → length xs ≤ i → was ≡ start ++ flat_map part (take i xs) → was ≡ start ++ flat_map part xs
   grown start was i h e = e ∙ ap (λ t. start ++ flat_map part t) (take_all i xs h)
-
-pub numbers_grown : (ns start was : List ℕ) (i : ℕ) → length ns ≤ i → was ≡ start ++ flat_map number_text (take i ns) → was ≡ start ++ numbers_text ns
-numbers_grown ns start was i h e = grown number_text ns start was i h e ∙ ap (λ t. start ++ t) (sym (numbers_joined ns))
 
 -- the offer with a number, among those there are
 pub option_at : {C : Type 0} (text : C → List ℕ) (os : List (Label C)) (n : ℕ) (d : Label C) → n < length os → option_text text (slice_get os n) ≡ offer_text text (get_or os n d)
@@ -62,21 +60,17 @@ pub walk_written : {C : Type 0} (h : Option LabelRefusal) (o : Option (Label C))
 walk_written h o ps start e f = f ∙ ap (λ k. walk_of (told k o) start) e
 
 -- an offer whose number is below their count is there
-pub some_offer : {C : Type 0} (os : List (Label C)) (n : ℕ) → n < length os → option_map (λ l. l.cost) (slice_get os n) ≡ None → ⊥
-some_offer [] n h e = omega arith
-some_offer (o ∷ os) zero h e = let z : ◌≡◌ {A = ℕ} 0 1 = cc in omega arith
-some_offer (o ∷ os) (suc n) h e = some_offer os n (omega arith) e
+pub some_offer : {C : Type 0} (os : List (Label C)) (n : ℕ) → n < length os → IsSome (option_map (λ l. l.cost) (slice_get os n))
+some_offer [] n h = absurd (omega arith)
+some_offer (o ∷ os) zero h = refl
+some_offer (o ∷ os) (suc n) h = some_offer os n (omega arith)
 
 module _ {C : Type 0} (text : C → List ℕ) (i : Instance C) where
   -- a cart whose labels do not fit stops the page
-  pub page_stopped : (cart : ℕ) (was after : List ℕ) (stop : Stop) → cart < cart_count i → Checked i → CartAdded text i cart was after (Err stop) → PageAdded text i (Err stop)
+  pub page_stopped : (cart : ℕ) (was after : List ℕ) (stop : Stop Fault) → cart < cart_count i → Checked i → CartAdded text i cart was after (Err stop) → PageAdded text i (Err stop)
   page_stopped cart was after Memory known c h = tt
   page_stopped cart was after (Refused fault) known c h =
       subst (FailsAt i) (sym h.0) (c, λ fit. omega (arith, fit cart known, h.1))
-
--- three parts, one after another
-pub three_parts : (start a b c w x y : List ℕ) → w ≡ start ++ a → x ≡ w ++ b → y ≡ x ++ c → y ≡ start ++ (a ++ (b ++ c))
-three_parts start a b c w x y d e f = f ∙ ap (λ t. t ++ c) (e ∙ ap (λ t. t ++ b) d) ∙ append_assoc (start ++ a) b c ∙ append_assoc start a (b ++ c)
 
 -- a cart's heading and then all its offers
 pub cart_whole : {C : Type 0} (text : C → List ℕ) (cart count : ℕ) (os : List (Label C)) (start headed after line : List ℕ) → count ≡ length os → line ≡ heading_text cart count → headed ≡ start ++ line → after ≡ headed ++ flat_map (offer_text text) os → after ≡ start ++ cart_text text cart os

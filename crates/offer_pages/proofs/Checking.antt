@@ -1,10 +1,12 @@
 -- The checks of an instance, element by element.
 -- Assumes nothing.
-use Rattle.std.proofs.Common.{◌≡◌, ℕ, ◌+◌, ◌<◌, ◌≤◌, true, false, List, [], ◌∷◌, map, length, get_or, take, Decides, sym, refl, subst}
+use Rattle.std.proofs.Common.{◌≡◌, ℕ, ◌+◌, ◌<◌, ◌≤◌, Bool, true, false, List, [], ◌∷◌, map, length, get_or, take, Decides, sym, refl, ◌∙◌, subst, arith}
 use mathlib.Core.Option.{some}
 use lib.ListN.{get_elem?}
-use Rattle.std.specs.List.{AllByRecursion}
-use Rattle.std.proofs.ByRecursion.{All-get_or, All-map, All-more}
+use Rattle.std.specs.Bool.{MatchBool}
+use Rattle.std.specs.List.{AllByRecursion, AllWithin, HoldsAt, range_with_len}
+use Rattle.std.proofs.lemmas.List.FromFn.{length-range_with_len, get_or-range_with_len}
+use Rattle.std.proofs.ByRecursion.{All-get_or, All-more}
 use Rattle.std.proofs.lemmas.List.{take_all}
 use Rattle.std.proofs.lemmas.Bool.{false≢true}
 use Rattle.rules.proofs.Members.{at_place}
@@ -16,7 +18,16 @@ decides_yes p = (λ e. p, λ h. refl)
 pub decides_no : {P : Type 0} → (P → ⊥) → Decides false P
 decides_no no_p = (λ e. absurd (false≢true e), λ p. absurd (no_p p))
 
-all_unmap : {X Y : Type 0} (P : Y → Type 0) (f : X → Y) (xs : List X) → AllByRecursion P (map f xs) → AllByRecursion (λ x. P (f x)) xs
+-- what each number of a range passes, where a test over it says whether each does
+pub all_in_range : (P : ℕ → Type 0) (n : ℕ) (r : Bool) → MatchBool r (AllWithin P (range_with_len 0 n) 0 (length (range_with_len 0 n))) ((k : ℕ) × (k < length (range_with_len 0 n)) × HoldsAt (λ x. P x → ⊥) (range_with_len 0 n) k) → Decides r ((k : ℕ) → k < n → P k)
+all_in_range P n true all =
+    decides_yes (λ k h. let same : 0 + k ≡ k = omega arith in subst P (get_or-range_with_len 0 n k 0 h ∙ same) (all k 0 (omega arith) (omega (arith, h, length-range_with_len 0 n))))
+all_in_range P n false (k, l, fails) =
+    let h : k < n = omega (arith, l, length-range_with_len 0 n) in
+    let same : 0 + k ≡ k = omega arith in
+    decides_no (λ all. fails 0 (subst P (sym (get_or-range_with_len 0 n k 0 h ∙ same)) (all k h)))
+
+pub all_unmap : {X Y : Type 0} (P : Y → Type 0) (f : X → Y) (xs : List X) → AllByRecursion P (map f xs) → AllByRecursion (λ x. P (f x)) xs
 all_unmap P f [] h = tt
 all_unmap P f (x ∷ xs) h = (h.0, all_unmap P f xs h.1)
 
@@ -38,11 +49,3 @@ module _ {X : Type 0} (P : X → Type 0) where
   found_more xs n x e p all =
       let at = at_place xs n x e in
       All-more P xs n x at.0 all (subst P (sym (at.1 x)) p)
-
--- what holds of each element, and of what each means
-module _ {X Y : Type 0} (P : Y → Type 0) (f : X → Y) where
-  pub all_meant : (xs : List X) (n : ℕ) → length xs ≤ n → AllByRecursion (λ x. P (f x)) (take n xs) → AllByRecursion P (map f xs)
-  all_meant xs n h all = All-map P f xs (all_reached (λ x. P (f x)) xs n h all)
-
-  pub meant_fails : (xs : List X) (n : ℕ) (d : X) → n < length xs → (P (f (get_or xs n d)) → ⊥) → AllByRecursion P (map f xs) → ⊥
-  meant_fails xs n d h no_p all = fails_at (λ x. P (f x)) xs n d h no_p (all_unmap P f xs all)

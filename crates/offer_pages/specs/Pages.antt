@@ -1,6 +1,6 @@
 -- The page of a site's text, or why there is none.
 -- Assumes nothing.
-use Rattle.std.specs.Prelude.{◌≡◌, ℕ, ◌<◌, ◌≤◌, ◌⊎◌, List, length, Ok, Err, vec_items, decimal, Result, Vec}
+use Rattle.std.specs.Prelude.{◌≡◌, ℕ, ◌<◌, ◌≤◌, ◌⊎◌, List, length, vec_items, decimal, Result, Vec}
 use Rattle.std.specs.declared.alloc.Global.{Global}
 use Rattle.costs.specs.Texts.{spaced}
 use Rattle.rules.specs.Instances.{Instance}
@@ -11,8 +11,8 @@ use Rattle.sites.specs.declared.rooms.Rooms.{Rooms}
 use Rattle.sites.specs.Sites.{said, Accepted, Refused}
 use Rattle.offer_pages.specs.declared.fault.Fault.{Fault}
 use Rattle.offer_pages.specs.declared.fault.Fault.TheVariants.{Unread}
-use Rattle.offer_pages.specs.declared.fault.Stop.{Stop}
-use Rattle.offer_pages.specs.declared.fault.Stop.TheVariants.{Memory, Refused as Declined}
+use Rattle.pages.specs.declared.stop.Stop.{Stop}
+use Rattle.pages.specs.Stops.{MadeOrRefused}
 use Rattle.offer_pages.specs.Conditions.{LabelsFit, Checked, FailsAt}
 use Rattle.offer_pages.specs.Rights.{AllRight}
 use Rattle.offer_pages.specs.Texts.{page_text}
@@ -53,7 +53,5 @@ pub record PageOf (bytes out : List ℕ) : Type 0 where
   pub prints : out ≡ page_text total_worst_text site
 
 -- memory may be wanting at any time
-abbrev pub PageMade : List ℕ → Result (Vec ℕ Global) Stop → Type 0
-PageMade bytes (Ok v) = PageOf bytes (vec_items v)
-PageMade bytes (Err (Declined fault)) = FaultOf bytes fault
-PageMade bytes (Err Memory) = Unit {0}
+abbrev pub PageMade : List ℕ → Result (Vec ℕ Global) (Stop Fault) → Type 0
+PageMade bytes = MadeOrRefused (λ v. PageOf bytes (vec_items v)) (FaultOf bytes)

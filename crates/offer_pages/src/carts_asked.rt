@@ -7,13 +7,14 @@ ghost use Rattle.rules.specs.Instances.{cart_count};
 ghost use Rattle.offer_pages.specs.Carts.{Ready, CartAdded, option_text};
 ghost use Rattle.offer_pages.specs.Views.{meant};
 
-use crate::fault::{Fault, Stop};
-use crate::lines::{heading, push_cost, push_places};
+use crate::fault::Fault;
+use crate::places::Places;
 use crate::view::SiteView;
 use carts::Constraint;
 use costs::CostKind;
 use floors::Floor;
 use labels::{LabelRow, Query, count_offers, take_offer};
+use pages::{Stop, push_line};
 use std::alloc::{AllocError, Global};
 
 // Adds the offer with a number.
@@ -29,12 +30,12 @@ fn push_offer<F: Floor, C: CostKind>(
     requires known { number < length (offers_of (asked F.Floor.moves C.CostKind.kind constraint_of query.now)) }
     ensures { OnOk result (out.new.items ≡ out.old.items ++ option_text C.Text.text (slice_get (offers_of (asked F.Floor.moves C.CostKind.kind constraint_of query.now)) number)) }
 {
-    let Ok(offer) = take_offer(query, number, rows, places) else {
-        unreachable()
-    };
-    let Some(cost) = offer else { unreachable() };
-    push_cost(out, cost, heap)?;
-    push_places(out, places, heap)
+    let offer = take_offer(query, number, rows, places).unwrap();
+    let cost = offer.unwrap();
+    push_line(out, b"QC ", &cost, heap)?;
+    let line = Places(places).to_string(heap)?;
+    out.extend_from_slice(line.as_bytes())?;
+    Ok(())
 }
 
 // Adds a cart and its offers, as if it were alone.
@@ -45,7 +46,7 @@ pub fn push_cart<F: Floor, C: CostKind>(
     rows: &mut [LabelRow<C>],
     places: &mut [u8],
     heap: Global,
-) -> Result<(), Stop>
+) -> Result<(), Stop<Fault>>
     requires ready { Ready (meant F.Floor.moves C.CostKind.kind site.now) (length rows.old) (length places.old) }
     requires known { cart < cart_count (meant F.Floor.moves C.CostKind.kind site.now) }
     ensures { CartAdded C.Text.text (meant F.Floor.moves C.CostKind.kind site.now) cart out.old.items out.new.items result }
@@ -61,7 +62,7 @@ pub fn push_cart<F: Floor, C: CostKind>(
     let Ok(count) = count_offers(&query, rows) else {
         return Err(Stop::Refused(Fault::ManyLabels));
     };
-    let line = heading(cart, count, heap)?;
+    let line = format!(in heap; "OF {cart} {count}\n")?;
     out.extend_from_slice(line.as_bytes())?;
     for number in 0..count {
         push_offer(out, &query, number, rows, places, heap)?;

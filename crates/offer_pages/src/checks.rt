@@ -4,24 +4,23 @@ ghost use Rattle.offer_pages.specs.Conditions.{OnFloor, LinesThere};
 ghost use Rattle.offer_pages.specs.Views.{meant};
 
 use crate::view::SiteView;
+use carts::Cart;
 use costs::CostKind;
 use floors::Floor;
+
+// Whether a cart starts and ends at one of so many places.
+fn within(cart: &Cart, places: u8) -> bool
+    ensures { Decides result ((cart.now.start < places) × (cart.now.goal < places)) }
+{
+    cart.start < places && cart.goal < places
+}
 
 // Whether each cart starts and ends on the floor.
 pub fn on_floor<F: Floor, C: CostKind>(site: &SiteView<'_, F, C>) -> bool
     ensures { Decides result (OnFloor (meant F.Floor.moves C.CostKind.kind site.now)) }
 {
     let places = site.floor.places();
-    for n in 0..site.carts.len() {
-        let cart = site.carts[n];
-        if cart.start >= places {
-            return false;
-        }
-        if cart.goal >= places {
-            return false;
-        }
-    }
-    true
+    site.carts.iter().all(|cart| within(cart, places))
 }
 
 // Whether each move from a place pays a line below `lines`.
@@ -44,13 +43,6 @@ pub fn lines_there<F: Floor, C: CostKind>(site: &SiteView<'_, F, C>) -> bool
     ensures { Decides result (LinesThere (meant F.Floor.moves C.CostKind.kind site.now)) }
 {
     let lines = site.tariff.len();
-    if lines < 1 || lines > 255 {
-        return false;
-    }
-    for place in 0..site.floor.places() {
-        if !pays_below(site.floor, place, lines) {
-            return false;
-        }
-    }
-    true
+    (1..=255).contains(&lines)
+        && (0..site.floor.places()).all(|place| pays_below(site.floor, place, lines))
 }

@@ -1,8 +1,8 @@
-ghost use Rattle.std.specs.Prelude.{◌≡◌};
-ghost use Rattle.offer_pages.specs.declared.fault.Stop.TheVariants.{Memory};
+ghost use Rattle.std.specs.Prelude.{◌≡◌, Some};
+ghost use Rattle.offer_pages.specs.Faults.{fault_numbers, fault_text};
 
 use sites::SiteRefusal;
-use std::alloc::AllocError;
+use std::fmt;
 
 // Why a site has no page of offers: the first check that fails.
 #[derive(Clone, Copy)]
@@ -18,25 +18,27 @@ pub enum Fault {
     ManyLabels,
 }
 
-// What ends the work early.
-#[derive(Clone, Copy)]
-pub enum Stop {
-    Memory,
-    Refused(Fault),
-}
-
-impl From<AllocError> for Stop {
-    ghost from_gives = { λ _ r. r ≡ Memory };
-
-    fn from(_e: AllocError) -> Stop {
-        Stop::Memory
+impl Fault {
+    // The refusal's number, the line that is not read, the number of the refusal that it carries, and that one's row; 0 where there is none.
+    fn numbers(self) -> [u16; 4]
+        ensures { result ≡ fault_numbers self }
+    {
+        match self {
+            Fault::Unread(refusal) => refusal.numbers(),
+            Fault::NoCart => [8, 0, 0, 0],
+            Fault::OffFloor => [9, 0, 0, 0],
+            Fault::NoLine => [10, 0, 0, 0],
+            Fault::ManyLabels => [14, 0, 0, 0],
+        }
     }
 }
 
-impl<T: Drop> From<std::alloc::AllocFailed<T>> for Stop {
-    ghost from_gives = { λ _ r. r ≡ Memory };
+// The refusal in one line.
+impl fmt::Display for Fault {
+    ghost output = { λ fault. Some (fault_text fault) };
 
-    fn from(_e: std::alloc::AllocFailed<T>) -> Stop {
-        Stop::Memory
+    fn fmt<W: fmt::Write>(&self, f: &mut fmt::Formatter<W>) -> fmt::Result {
+        let [number, line, carried, row] = self.numbers();
+        writeln!(f, "RF {number} {line} {carried} {row}")
     }
 }

@@ -3,10 +3,10 @@
 mod carts_asked;
 mod checks;
 mod fault;
-mod fault_text;
-mod lines;
 mod page;
+mod places;
 mod printing;
 mod view;
 
-pub use printing::{MOST_BYTES, offer_page};
+pub use pages::MOST_BYTES;
+pub use printing::offer_page;

@@ -1,30 +1,16 @@
-ghost use Rattle.std.specs.Prelude.{◌≡◌, ◌≤◌, length, IfOk, vec_len};
+ghost use Rattle.std.specs.Prelude.{◌≤◌, length};
 ghost use Rattle.offer_pages.specs.Carts.{Ready, PageAdded};
 ghost use Rattle.offer_pages.specs.Views.{meant};
 
 use crate::carts_asked::push_cart;
 use crate::checks::{lines_there, on_floor};
-use crate::fault::{Fault, Stop};
+use crate::fault::Fault;
 use crate::view::SiteView;
 use costs::CostKind;
 use floors::Floor;
 use labels::LabelRow;
-use std::alloc::{AllocError, Global};
-
-// Rows for the labels of one cart.
-fn label_rows<C: CostKind>(heap: Global) -> Result<Vec<LabelRow<C>>, AllocError>
-    ensures { IfOk result (λ v. vec_len v ≡ 2048) }
-{
-    let mut rows = Vec::new(heap);
-    for _n in 0..2048u16 {
-        rows.push(LabelRow {
-            cost: C::zero(),
-            parent: 0,
-            place: 0,
-        })?;
-    }
-    Ok(rows)
-}
+use pages::Stop;
+use std::alloc::Global;
 
 // The page of a site that passed the checks.
 fn write_page<F: Floor, C: CostKind>(
@@ -32,7 +18,7 @@ fn write_page<F: Floor, C: CostKind>(
     rows: &mut [LabelRow<C>],
     places: &mut [u8],
     heap: Global,
-) -> Result<Vec<u8>, Stop>
+) -> Result<Vec<u8>, Stop<Fault>>
     requires ready { Ready (meant F.Floor.moves C.CostKind.kind site.now) (length rows.old) (length places.old) }
     requires few { length site.now.carts.now ≤ 6 }
     ensures { PageAdded C.Text.text (meant F.Floor.moves C.CostKind.kind site.now) result }
@@ -48,12 +34,12 @@ fn write_page<F: Floor, C: CostKind>(
 pub fn page_of<F: Floor, C: CostKind>(
     site: &SiteView<'_, F, C>,
     heap: Global,
-) -> Result<Vec<u8>, Stop>
+) -> Result<Vec<u8>, Stop<Fault>>
     requires ticks { site.now.horizon ≤ 64 }
     requires few { length site.now.carts.now ≤ 6 }
     ensures { PageAdded C.Text.text (meant F.Floor.moves C.CostKind.kind site.now) result }
 {
-    if site.carts.len() < 1 {
+    if site.carts.is_empty() {
         return Err(Stop::Refused(Fault::NoCart));
     }
     if !on_floor(site) {
@@ -62,7 +48,12 @@ pub fn page_of<F: Floor, C: CostKind>(
     if !lines_there(site) {
         return Err(Stop::Refused(Fault::NoLine));
     }
-    let mut rows = label_rows::<C>(heap)?;
+    let row = LabelRow {
+        cost: C::zero(),
+        parent: 0,
+        place: 0,
+    };
+    let mut rows = vec![in heap; row; 2048]?;
     let mut places = vec![in heap; 0u8; site.horizon as usize + 1]?;
     write_page(site, rows.as_mut_slice(), places.as_mut_slice(), heap)
 }

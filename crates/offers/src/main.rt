@@ -1,16 +1,13 @@
 #![tactic(auto)]
 
 // Prints what each cart of a site has on offer, as if it were alone. The site stands on standard input.
-use offer_pages::{MOST_BYTES, offer_page};
+use offer_pages::offer_page;
+use pages::read_input;
 use std::io;
-use std::io::{Read, Write};
+use std::io::Write;
 
-// Reads a byte more than a site may have, so that too many are seen.
 fn run(rt: &HostRuntime) -> io::Result<()> {
-    let mut input = Vec::new(rt.alloc());
-    rt.stdin()
-        .take(MOST_BYTES as u64 + 1)
-        .read_to_end(&mut input)?;
+    let input = read_input(rt.stdin(), rt.alloc())?;
     let page = offer_page(input.as_slice(), rt.alloc())?;
     rt.stdout().write_all(page.as_slice())
 }

@@ -13,12 +13,13 @@ use std::io::{Read, Write};
 fn site_length(bytes: &[u8]) -> usize
     ensures { result ≤ length bytes.now }
 {
-    for n in 0..bytes.len() {
-        if bytes[n] == b'-' && (n == 0 || bytes[n - 1] == b'\n') {
-            return n;
-        }
+    if let [b'-', ..] = bytes {
+        return 0;
     }
-    bytes.len()
+    bytes
+        .windows(2)
+        .position(|pair| matches!(pair, [b'\n', b'-']))
+        .map_or(bytes.len(), |at| at + 1)
 }
 
 fn run(rt: &HostRuntime) -> io::Result<()> {
@@ -27,7 +28,7 @@ fn run(rt: &HostRuntime) -> io::Result<()> {
     let mut rest = input.as_slice();
     while let Some((name, below)) = split_once(rest, b'\n') {
         let length = site_length(below);
-        let page = offer_page(&below[0..length], rt.alloc())?;
+        let page = offer_page(&below[..length], rt.alloc())?;
         rt.stdout().write_all(name)?;
         rt.stdout().write_all(b"\n")?;
         rt.stdout().write_all(page.as_slice())?;

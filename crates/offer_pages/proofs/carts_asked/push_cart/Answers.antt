@@ -1,6 +1,5 @@
 use Rattle.std.proofs.Common.{◌≡◌, ℕ, [], ◌++◌, length, None, vec_items, sym, refl, ap, ◌∙◌, subst, arith}
 use Rattle.std.proofs.lemmas.List.{append-nil}
-use Rattle.std.proofs.lemmas.Result.{err_from_is_err_and}
 use Rattle.labels.specs.Answers.{walk_hindrance}
 use Rattle.rules.specs.Offers.{Label, offers}
 use Rattle.offer_pages.specs.Texts.{offer_text}
@@ -13,13 +12,6 @@ pub returns-in_default : goal.returns-in_default
 returns-in_default g c =
     let i = meant g.F.Floor.moves g.C.CostKind.kind c.args.site.now in
     (refl, too_many i c.args.cart (length c.args.rows.now) (length c.args.places.now) c.requires.ready c.requires.known _ (length (offers i c.args.cart [])) c.in_default.ensures.counted)
-
-pub returns-in_err-line : goal.returns-in_err-line
-returns-in_err-line g c = let p = err_from_is_err_and c.from_residual.result c.from_residual.ensures.1 in rw (p.1, p.2) tt
-
-pub returns-in_err-extend_from_slice : goal.returns-in_err-extend_from_slice
-returns-in_err-extend_from_slice g c =
-    let p = err_from_is_err_and c.from_residual-in_err-extend_from_slice.result c.from_residual-in_err-extend_from_slice.ensures.1 in rw (p.1, p.2) tt
 
 pub loop-number-init : goal.loop-number-init
 loop-number-init g c = sym (append-nil (vec_items c.extend_from_slice.new.self))
@@ -38,10 +30,6 @@ push_offer-requires g c =
       known = omega (arith, c.loop-number-test.true, k.count);
     }
 
-pub returns-in_err-push_offer : goal.returns-in_err-push_offer
-returns-in_err-push_offer g c =
-    let p = err_from_is_err_and c.from_residual-in_err-push_offer.result c.from_residual-in_err-push_offer.ensures.1 in rw (p.1, p.2) tt
-
 pub loop-number-preserved : goal.loop-number-preserved
 loop-number-preserved g c =
     let i = meant g.F.Floor.moves g.C.CostKind.kind c.args.site.now in
@@ -59,6 +47,6 @@ returns g c =
     let k = counted i c.args.cart (length c.args.rows.now) (length c.args.places.now) c.requires.ready c.requires.known c.in-Ok.count (length os) c.in-Ok.ensures.counted in (
       k.fits,
       cart_whole g.C.Text.text c.args.cart c.in-Ok.count os (vec_items c.args.out.now) (vec_items c.extend_from_slice.new.self) (vec_items c.loop-number.out) c.as_bytes.result.now k.count
-          (c.as_bytes.ensures.value ∙ c.in_ok-line.ensures) c.in_ok-extend_from_slice.ensures.items
+          (c.as_bytes.ensures.value ∙ c.in_ok-line.ensures.ok) c.in_ok-extend_from_slice.ensures.items
           (grown (offer_text g.C.Text.text) os (vec_items c.extend_from_slice.new.self) (vec_items c.loop-number.out) c.loop-number.number (omega (arith, c.loop-number-test.false, k.count)) c.loop-number.invariant),
     )

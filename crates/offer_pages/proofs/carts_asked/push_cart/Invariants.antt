@@ -7,4 +7,4 @@ use Rattle.offer_pages.proofs.carts_asked.push_cart.Given as goal
 
 abbrev pub invariant-loop-number : goal.invariant-loop-number
 invariant-loop-number g l =
-    vec_items l.out ≡ vec_items l.initial.out ++ flat_map (offer_text g.C.Text.text) (take l.number (offers (meant g.F.Floor.moves g.C.CostKind.kind l.site) l.cart []))
+    vec_items l.out ≡ vec_items l.initial.out ++ flat_map (offer_text g.C.Text.text) (take l.number (offers (meant g.F.Floor.moves g.C.CostKind.kind l.site) l.fn.cart []))

@@ -1,29 +1,19 @@
-use Rattle.std.proofs.Common.{◌<◌, length, arith}
+use Rattle.std.proofs.Common.{◌<◌, ◌≡◌, ℕ, true, length, get_or, All, sym, subst, rules}
+use Rattle.std.proofs.lemmas.List.Elements.{All-from_get_or, All-from_recursion, recursion_from_All, All-map}
 use Rattle.carts.specs.Carts.{cart_of}
+use Rattle.carts.specs.declared.cart.Cart.{Cart as CartRow}
 use Rattle.rules.specs.Instances.{Cart}
-use Rattle.std.proofs.ByRecursion.{All-more, All-weaker}
-use Rattle.offer_pages.proofs.Checking.{decides_yes, decides_no, all_meant, meant_fails}
+use Rattle.offer_pages.proofs.Checking.{all_unmap}
 use Rattle.offer_pages.proofs.checks.on_floor.Goals as goal
-
-pub returns-then-cart-places : goal.returns-then-cart-places
-returns-then-cart-places g c =
-    let n = length (g.F.Floor.moves c.args.site.now.floor.now) in
-    let P : Cart → Type 0 = λ k. (k.start < n) × (k.goal < n) in
-    decides_no (meant_fails P cart_of c.args.site.now.carts.now c.loop-n.n (record { start = 0; goal = 0 }) c.loop-n-test.true (λ p. omega (arith, p.0, c.if-cart-places.true, c.places-places.ensures)))
-
-pub returns-then-cart-places-2 : goal.returns-then-cart-places-2
-returns-then-cart-places-2 g c =
-    let n = length (g.F.Floor.moves c.args.site.now.floor.now) in
-    let P : Cart → Type 0 = λ k. (k.start < n) × (k.goal < n) in
-    decides_no (meant_fails P cart_of c.args.site.now.carts.now c.loop-n.n (record { start = 0; goal = 0 }) c.loop-n-test.true (λ p. omega (arith, p.1, c.if-cart-places-2.true, c.places-places.ensures)))
-
-pub loop-n-preserved : goal.loop-n-preserved
-loop-n-preserved g c =
-    All-more (λ k. (k.start < c.places-places.result) × (k.goal < c.places-places.result)) c.args.site.now.carts.now c.loop-n.n (record { start = 0; goal = 0 }) c.loop-n-test.true c.loop-n.invariant (c.if-cart-places.false, c.if-cart-places-2.false)
 
 pub returns : goal.returns
 returns g c =
     let n = length (g.F.Floor.moves c.args.site.now.floor.now) in
-    let P : Cart → Type 0 = λ k. (k.start < n) × (k.goal < n) in
-    decides_yes (all_meant P cart_of c.args.site.now.carts.now c.loop-n.n c.loop-n-test.false
-    (All-weaker (λ k. (k.start < c.places-places.result) × (k.goal < c.places-places.result)) (λ k. P (cart_of k)) (λ k h. (omega (arith, h.0, c.places-places.ensures), omega (arith, h.1, c.places-places.ensures))) _ c.loop-n.invariant))
+    let carts = c.args.site.now.carts.now in
+    let Inside : ℕ → Cart → Type 0 = λ m k. (k.start < m) × (k.goal < m) in
+    let Q : ℕ → CartRow → Type 0 = λ m k. Inside m (cart_of k) in
+    let yes : c.all.result ≡ true → (k : ℕ) → k < length carts → Q c.places-places.result (get_or carts k (record { start = 0; goal = 0 })) = λ e k h. search rules in
+    let no : All (Q c.places-places.result) carts → c.all.result ≡ true = λ h. search rules in (
+      λ e. recursion_from_All (Inside n) _ (All-map (Inside n) cart_of carts (subst (λ (m : ℕ). All (Q m) carts) c.places-places.ensures (All-from_get_or (Q c.places-places.result) carts (record { start = 0; goal = 0 }) (yes e)))),
+      λ all. no (subst (λ (m : ℕ). All (Q m) carts) (sym c.places-places.ensures) (All-from_recursion (Q n) carts (all_unmap (Inside n) cart_of carts all))),
+    )

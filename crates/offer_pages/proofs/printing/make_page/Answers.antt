@@ -1,10 +1,16 @@
+use Rattle.std.proofs.Common.{refl, ◌∙◌, rules}
 use Rattle.std.proofs.lemmas.Result.{err_from_is_err_and}
+use Rattle.offer_pages.proofs.Opening.{unread, opened, page_read}
 use Rattle.offer_pages.proofs.printing.make_page.Goals as goal
 
-pub returns-in_err-tariff : goal.returns-in_err-tariff
-returns-in_err-tariff c =
-    let p = err_from_is_err_and c.from_residual-in_err-tariff.result c.from_residual-in_err-tariff.ensures.1 in rw (p.1, p.2) tt
+pub returns-in_err-site : goal.returns-in_err-site
+returns-in_err-site c =
+    let p = err_from_is_err_and c.from_residual.result c.from_residual.ensures.1 in
+    rw (p.1, p.2)
+    (unread c.args.bytes.now _ _ c.read_site.result _ c.in_err-site.field-0.0 refl refl refl c.read_site.ensures c.in_err-site.ensures.cases (λ e says. search rules))
 
-pub returns-in_err-carts : goal.returns-in_err-carts
-returns-in_err-carts c =
-    let p = err_from_is_err_and c.from_residual-in_err-carts.result c.from_residual-in_err-carts.ensures.1 in rw (p.1, p.2) tt
+pub returns : goal.returns
+returns c =
+    let read = opened c.args.bytes.now _ _ c.read_site.result _ c.in_ok-site.site c.read_site.ensures c.in_ok-site.ensures.cases c.in_ok-site.ensures.variant in
+    page_read c.args.bytes.now _ _ c.in_ok-site.site c.page_of.result c.carts.result c.horizon.result read
+    refl refl refl (c.carts.ensures ∙ read.holds.carts) (c.horizon.ensures ∙ read.holds.horizon) c.page_of.ensures
