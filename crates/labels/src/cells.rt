@@ -17,7 +17,8 @@ use carts::Constrains;
 use costs::CostKind;
 use floors::Floor;
 
-// One row more, if there is room.
+// One row more, if there is room. Through `get_mut` a proof would not know what the rows then hold.
+// The rows and how many are filled stay apart: of a struct that lends the rows, each function would also have to promise that it still lends the same ones.
 fn push_row<C: CostKind>(rows: &mut [LabelRow<C>], n: usize, row: LabelRow<C>) -> Option<usize>
     requires { n ≤ length rows.old }
     ensures { Grown rows.old rows.new n (shown_row (shown (take n rows.old)) row ∷ []) result }
@@ -73,6 +74,7 @@ impl<F: Floor, C: CostKind, B: Constrains> Search<'_, F, C, B> {
                 n,
                 LabelRow {
                     cost: C::zero(),
+                    // goes on from no row: the rows are lent by callers, and a number keeps them small
                     parent: u16::MAX,
                     place,
                 },
