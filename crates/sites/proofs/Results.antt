@@ -17,3 +17,7 @@ placed line f = record { line = line; fault = f }
 pub fault_was : {X : Type 0} (P : SiteFault → Type 0) (line : ℕ) (o : Result X SiteFault) (e : SiteRefusal) → MatchResult o (λ x. ◌≡◌ {A = Result X SiteRefusal} (Err e) (Ok x)) P → ((f : SiteFault) → P f → e ≡ placed line f) → (f : SiteFault) × (o ≡ Err f) × (e ≡ placed line f)
 fault_was P line (Ok x) e m h = cc
 fault_was P line (Err f) e m h = (f, refl, h f m)
+
+pub err_was : {X E F : Type 0} (P : E → Type 0) (o : Result X E) (e : F) → MatchResult o (λ x. ◌≡◌ {A = Result X F} (Err e) (Ok x)) P → (d : E) × (o ≡ Err d) × P d
+err_was P (Ok x) e m = cc
+err_was P (Err d) e m = (d, refl, m)

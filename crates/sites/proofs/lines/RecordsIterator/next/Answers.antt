@@ -1,6 +1,9 @@
 use Rattle.std.proofs.Common.{refl}
-use Rattle.sites.proofs.LineRecords.{no_record}
+use Rattle.sites.proofs.LineRecords.{no_line, no_record}
 use Rattle.sites.proofs.lines.RecordsIterator.next.Goals as goal
+
+pub returns-in_err-line-clause-steps : goal.returns-in_err-line-clause-steps
+returns-in_err-line-clause-steps c = rw c.from_residual.ensures (no_line c.args.self.now.rest.now c.in_err-line.ensures, refl)
 
 pub returns-in_err-record-clause-steps : goal.returns-in_err-record-clause-steps
 returns-in_err-record-clause-steps c =

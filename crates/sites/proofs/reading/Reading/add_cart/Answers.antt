@@ -1,11 +1,13 @@
-use Rattle.std.proofs.Common.{◌≡◌, ◌+◌, min, [], ◌∷◌, ◌++◌, length, take, drop, set, None, Ok, Result, sym, ap, ◌∙◌, subst}
+use Rattle.std.proofs.Common.{◌≡◌, ◌+◌, min, [], ◌∷◌, ◌++◌, length, take, drop, set, None, Ok, Err, Result, sym, ap, ◌∙◌, subst, rules}
+use Rattle.std.proofs.lemmas.Result.{err_from_is_err_and}
 use Rattle.std.proofs.lemmas.List.{length_push}
 use Rattle.carts.specs.declared.cart.Cart.{Cart as CartRow}
 use Rattle.carts.specs.declared.draft.Draft.{Draft}
 use Rattle.carts.specs.declared.draft_refusal.DraftRefusal.{DraftRefusal}
 use Rattle.carts.specs.Drafts.{Entered, cart_refusal}
 use Rattle.sites.proofs.CartRooms.{cart-room, cart-held, cart_rows}
-use Rattle.sites.proofs.Results.{ok_was}
+use Rattle.sites.proofs.Results.{ok_was, err_was}
+use Rattle.sites.specs.Sites.{draft_fault}
 use Rattle.sites.proofs.reading.Reading.add_cart.Goals as goal
 
 pub returns-clause-taken : goal.returns-clause-taken
@@ -33,3 +35,18 @@ returns-clause-taken c s g =
         tariff = g.tariff;
       },
     )
+
+pub returns-in_err-self-clause-taken : goal.returns-in_err-self-clause-taken
+returns-in_err-self-clause-taken c s g =
+    let cs = c.args.self.carts in
+    let k = c.min-room.result in
+    let room : k ≡ min c.args.rows 6 = c.min-room.ensures in
+    let p = err_from_is_err_and c.from_residual.result c.from_residual.ensures.1 in
+    let was = err_was _ c.add_cart.result c.in_err-self.field-0.0 c.in_err-self.ensures.cases in
+    let why : c.in_err-self.field-0.0 ≡ was.0.1 = search (rules, was.2) in
+    let P : Result Draft (Draft × DraftRefusal) → Type 0 = Entered c.args.self.site.draft (take k cs) c.args.start c.args.goal c.add_cart.new.rows in
+    let h : P (Err was.0) = subst P was.1 c.add_cart.ensures in
+    rw (p.1, p.2, why)
+    (ap draft_fault
+    (sym (cart-room s.carts cs k c.args.rows c.args.start c.args.goal g.carts g.rows room)
+    ∙ ap (λ m. cart_refusal (take m (take k cs)) (length (take k cs)) c.args.start c.args.goal) (sym g.entered) ∙ h.0))
