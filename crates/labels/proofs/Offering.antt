@@ -6,7 +6,7 @@ use Rattle.std.specs.Iterator.{SkipsThenYields, YieldsFirstBy}
 use Rattle.std.specs.List.{filter, list_any, range_with_len, slice_get}
 use Rattle.std.proofs.lemmas.Iterator.Consumers.{nth_from_yields_List, YieldsList-from_first}
 use Rattle.std.proofs.lemmas.Bool.{cases_Bool}
-use Rattle.std.proofs.lemmas.List.{length-append, length-map, length-drop, length-take, get_or-take, get_or-drop, get_or-map, at_drop_more, at_drop_all, take-map, drop-map, map-append}
+use Rattle.std.proofs.lemmas.List.{length-append, length-map, length-drop, length-take, get_or-take, get_or-drop, get_or-map, at_drop_more, at_drop_all, take-map, drop-map}
 use Rattle.std.proofs.lemmas.List.Folds.{list_any-append}
 use Rattle.std.proofs.lemmas.List.Sums.{length-filter, count_by-le-length}
 use Rattle.rules.specs.Kinds.{Kind, Laws}

@@ -1,6 +1,6 @@
 -- The next of a front: the first in the kind's order of the entries that are not skipped, and among equal costs the earliest.
 -- Assumes nothing.
-use Rattle.std.specs.Prelude.{Bool, true, false, cond, not, ◌&&◌, ◌||◌, List, [], ◌∷◌, Some, None, Option}
+use Rattle.std.specs.Prelude.{Bool, true, cond, not, ◌&&◌, ◌||◌, List, [], ◌∷◌, Some, None, Option}
 use Rattle.std.specs.List.{list_any}
 use Rattle.rules.specs.Kinds.{Kind}
 use Rattle.rules.specs.Fronts.{Entry, covered}

@@ -97,13 +97,12 @@ impl<'a, C: CostKind> Arrivals<'a, C> {
         &'a self,
         tick: u8,
         last: Option<C>,
-        best: Option<Offer<'a, C>>,
+        mut best: Option<Offer<'a, C>>,
     ) -> Option<Offer<'a, C>>
         requires { tick ≤ self.now.landing.horizon }
         ensures { Chooses C.CostKind.kind self.now last best.entry (standing (self.now.landing.horizon - tick) self.now.landing.goal (run_of self.now.starts.now self.now.landing tick (shown self.now.rows.now))) result }
     {
         let (from, run) = self.run(tick);
-        let mut best = best;
         for (at, row) in run.iter().enumerate() {
             let cost = row.cost;
             if self.is_better(last, &best, cost) {
@@ -122,6 +121,7 @@ impl<'a, C: CostKind> Arrivals<'a, C> {
     fn offer_after(&'a self, last: Option<C>) -> Option<Offer<'a, C>>
         ensures { Chooses C.CostKind.kind self.now last None (arrived self.now) result }
     {
+        // A loop carries the best so far from tick to tick as plainly as a `fold`.
         let mut best = None;
         for tick in self.landing.first..self.landing.horizon + 1 {
             best = self.by_tick(tick, last, best);
