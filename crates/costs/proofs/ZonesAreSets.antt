@@ -1,19 +1,14 @@
 -- That the kind of zones, and the count in their text, is what it says of the zones, zone by zone.
 -- Assumes nothing.
-use Rattle.std.proofs.Common.{◌≡◌, ℕ, zero, suc, ◌+◌, ◌/◌, ◌%◌, ◌^◌, ◌<◌, max, ◌⊎◌, sym, refl, ap, ◌∙◌, inl, inr, ⊎_elim, mod-eq_of_lt, pow-suc, one-add, arith}
+use Rattle.std.proofs.Common.{◌≡◌, ℕ, zero, suc, ◌+◌, ◌/◌, ◌%◌, ◌^◌, ◌<◌, max, ◌⊎◌, sym, refl, ap, ◌∙◌, inl, inr, ⊎_elim, mod-eq_of_lt, one-add, arith}
 use native.Mathlib.Nat.{zero-div}
-use lib.Bits.{bit_or, or_shr, or_step, or_lt}
+use lib.Bits.{or_lt}
+use Rattle.std.proofs.lemmas.Nat.Bits.{bit_at_or, same_from_bits_below}
 use lib.Count.{ones, ones_cat}
-use Rattle.std.proofs.lemmas.Nat.{shr-shr, pow_pos, mod-pow-add, mod_below}
+use Rattle.std.proofs.lemmas.Nat.{pow_pos, mod-pow-add, mod_below}
 use Rattle.std.proofs.lemmas.Bool.{cases_order, eqb-true, eq-eqb}
 use Rattle.costs.specs.declared.zones.Zones.{Zones}
 use Rattle.costs.specs.ZoneSets.{count_below, AreSets}
-
-or_low : (a b : ℕ) → bit_or a b % 2 ≡ max (a % 2) (b % 2)
-or_low a b = omega (arith, or_step a b)
-
-or_bit : (a b n : ℕ) → bit_or a b / 2 ^ n % 2 ≡ max (a / 2 ^ n % 2) (b / 2 ^ n % 2)
-or_bit a b n = ap (λ (x : ℕ). x % 2) (or_shr a b n) ∙ or_low (a / 2 ^ n) (b / 2 ^ n)
 
 either : (x y : ℕ) → max (x % 2) (y % 2) ≡ 1 → (x % 2 ≡ 1) ⊎ (y % 2 ≡ 1)
 either x y h = ⊎_elim (λ e. inl (omega arith)) (⊎_elim (λ l. inr (omega arith)) (λ m. inl (omega arith))) (cases_order (x % 2) (y % 2))
@@ -26,16 +21,6 @@ by_second x y h = omega arith
 
 nothing_more : (x y : ℕ) → (x % 2 ≡ 1 → y % 2 ≡ 1) → max (x % 2) (y % 2) ≡ y % 2
 nothing_more x y h = ⊎_elim (λ e. let k = h e in omega arith) (⊎_elim (λ l. omega arith) (λ m. absurd (omega arith))) (cases_order (x % 2) 1)
-
--- numbers with the same bits are the same
-same_bits : (k a b : ℕ) → a < 2 ^ k → b < 2 ^ k → ((n : ℕ) → n < k → a / 2 ^ n % 2 ≡ b / 2 ^ n % 2) → a ≡ b
-same_bits zero a b p q h = omega arith
-same_bits (suc k) a b p q h =
-    let p' = rw pow-suc at p in
-    let q' = rw pow-suc at q in
-    let high = same_bits k (a / 2) (b / 2) (omega arith) (omega arith) (λ n l.
-    ap (λ (x : ℕ). x % 2) (shr-shr a 1 n) ∙ h (1 + n) (omega arith) ∙ sym (ap (λ (x : ℕ). x % 2) (shr-shr b 1 n))) in
-    omega (arith, h 0 (omega arith))
 
 digit_ones : (d : ℕ) → d < 2 → ones d ≡ d
 unfolding ones
@@ -53,11 +38,11 @@ pub are_sets : AreSets
 are_sets =
     record {
       none = λ n h. omega (arith, zero-div (2 ^ n), h);
-      joined = λ a b n h. either (a.bits / 2 ^ n) (b.bits / 2 ^ n) (sym (or_bit a.bits b.bits n) ∙ h);
-      from_first = λ a b n h. or_bit a.bits b.bits n ∙ by_first (a.bits / 2 ^ n) (b.bits / 2 ^ n) h;
-      from_second = λ a b n h. or_bit a.bits b.bits n ∙ by_second (a.bits / 2 ^ n) (b.bits / 2 ^ n) h;
-      subset = λ a b le n h. ap (λ (x : ℕ). x / 2 ^ n % 2) (sym (eqb-true _ _ le)) ∙ or_bit a.bits b.bits n ∙ by_first (a.bits / 2 ^ n) (b.bits / 2 ^ n) h;
-      from_subset = λ a b h. eq-eqb _ _ (same_bits 64 _ _ (or_lt 64 a.bits b.bits a.fits b.fits) b.fits (λ n l.
-          or_bit a.bits b.bits n ∙ nothing_more (a.bits / 2 ^ n) (b.bits / 2 ^ n) (h n l)));
+      joined = λ a b n h. either (a.bits / 2 ^ n) (b.bits / 2 ^ n) (sym (bit_at_or a.bits b.bits n) ∙ h);
+      from_first = λ a b n h. bit_at_or a.bits b.bits n ∙ by_first (a.bits / 2 ^ n) (b.bits / 2 ^ n) h;
+      from_second = λ a b n h. bit_at_or a.bits b.bits n ∙ by_second (a.bits / 2 ^ n) (b.bits / 2 ^ n) h;
+      subset = λ a b le n h. ap (λ (x : ℕ). x / 2 ^ n % 2) (sym (eqb-true _ _ le)) ∙ bit_at_or a.bits b.bits n ∙ by_first (a.bits / 2 ^ n) (b.bits / 2 ^ n) h;
+      from_subset = λ a b h. eq-eqb _ _ (same_from_bits_below 64 _ _ (or_lt 64 a.bits b.bits a.fits b.fits) b.fits (λ n l.
+          bit_at_or a.bits b.bits n ∙ nothing_more (a.bits / 2 ^ n) (b.bits / 2 ^ n) (h n l)));
       counted = λ z. ap ones (sym (mod-eq_of_lt z.fits)) ∙ ones_below 64 z;
     }

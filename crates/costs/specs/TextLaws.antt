@@ -1,11 +1,11 @@
 -- Texts that can be read again.
 -- Assumes nothing.
 use Rattle.std.specs.Prelude.{◌≡◌, ℕ, zero, suc, ◌+◌, ◌/◌, ◌%◌, ◌^◌, ◌<◌, ◌≤◌, List, [], ◌∷◌, ◌++◌, length, decimal, ◌≢◌, refl}
-use Rattle.std.proofs.Common.{sym, ap, ◌∙◌, arith, pow-suc, length-append}
+use Rattle.std.proofs.Common.{sym, ap, ◌∙◌, arith, pow-suc}
 use Rattle.std.specs.List.{AllByRecursion}
 use Rattle.std.proofs.lemmas.Fmt.{decimal_by_steps, decimal_injective}
 use Rattle.std.proofs.ByRecursion.{All-push, All-weaker}
-use Rattle.std.proofs.lemmas.List.{append_cancel_left, append_assoc}
+use Rattle.std.proofs.lemmas.List.{append_cancel_left, append_assoc, same_from_push}
 use Rattle.std.proofs.lemmas.Bool.Decides.{nat_tests}
 use Rattle.costs.specs.Texts.{Texts, Begins, ended, Apart, hex_digit, hex_digits}
 
@@ -39,12 +39,6 @@ pub decimal_reads_back : (m n : ℕ) (r s : List ℕ) → m < 2 ^ 64 → n < 2 ^
 decimal_reads_back m n r s p q c h e =
     decimal_injective m n p q (until c _ _ r s (without c _ h (from_zero m p)) (without c _ h (from_zero n q)) e)
 
-push_same : (xs ys : List ℕ) (a b : ℕ) → xs ++ (a ∷ []) ≡ ys ++ (b ∷ []) → (xs ≡ ys) × (a ≡ b)
-push_same [] [] a b e = (refl, cc)
-push_same [] (y ∷ ys) a b e = absurd (omega (arith, simp length-append at (ap length e)))
-push_same (x ∷ xs) [] a b e = absurd (omega (arith, simp length-append at (ap length e)))
-push_same (x ∷ xs) (y ∷ ys) a b e = let t : xs ++ (a ∷ []) ≡ ys ++ (b ∷ []) = cc in let h : x ≡ y = cc in let k = push_same xs ys a b t in (cc k.0, k.1)
-
 hex_digit_same : (a b : ℕ) → a < 16 → b < 16 → hex_digit a ≡ hex_digit b → a ≡ b
 hex_digit_same a b p q e = grind (arith, nat_tests)
 
@@ -54,7 +48,7 @@ hex_digits_same zero m n p q e = omega arith
 hex_digits_same (suc k) m n p q e =
     let p' = rw pow-suc at p in
     let q' = rw pow-suc at q in
-    let ends = push_same (hex_digits k (m / 16)) (hex_digits k (n / 16)) (hex_digit (m % 16)) (hex_digit (n % 16)) e in
+    let ends = same_from_push (hex_digits k (m / 16)) (hex_digits k (n / 16)) (hex_digit (m % 16)) (hex_digit (n % 16)) e in
     let low = hex_digit_same (m % 16) (n % 16) (omega arith) (omega arith) ends.1 in
     let high = hex_digits_same k (m / 16) (n / 16) (omega arith) (omega arith) ends.0 in
     omega arith

@@ -1,10 +1,10 @@
 -- That sets of zones keep the laws.
 -- Assumes nothing.
-use Rattle.std.specs.Prelude.{◌≡◌, ℕ, zero, suc, ◌/◌, ◌%◌, ◌^◌, ◌<◌, ◌≤◌, ◌≢◌, bit_or, count_ones, refl}
+use Rattle.std.specs.Prelude.{◌≡◌, ℕ, ◌^◌, ◌<◌, ◌≤◌, ◌≢◌, bit_or, count_ones, refl}
 use Rattle.std.proofs.Common.{sym, ap, ◌∙◌, arith, length-append}
-use Rattle.std.proofs.Math.Arith.{bin_ind}
-use Rattle.std.proofs.lemmas.Nat.{or_shr, or_mod, or_comm, and_le_r, ones-le}
-use Rattle.std.specs.Int.Bits.{or_self, or_add_and}
+use Rattle.std.proofs.lemmas.Nat.{le_or_l, or_comm, ones-le}
+use Rattle.std.specs.Int.Bits.{or_self}
+use Rattle.std.proofs.lemmas.Nat.Bits.{bit_at_or, same_from_bits}
 use Rattle.std.proofs.lemmas.Bool.{eqb-true, eq-eqb}
 use Rattle.std.proofs.lemmas.Bool.Decides.{nat_tests}
 use Rattle.std.proofs.lemmas.Fmt.{decimal_nonempty}
@@ -17,30 +17,8 @@ use Rattle.costs.specs.declared.zones.Zones.{Zones}
 use Rattle.costs.specs.ZoneSets.{zones_same, zones_kind, zones_text}
 use Rattle.costs.specs.SizeLaws.{less_trans, less_irrefl, less_total}
 
-digit_assoc : (x y z : ℕ) → x < 2 → y < 2 → z < 2 → bit_or (bit_or x y) z ≡ bit_or x (bit_or y z)
-digit_assoc zero y z hx hy hz = refl
-digit_assoc (suc zero) zero z hx hy hz = refl
-digit_assoc (suc zero) (suc zero) zero hx hy hz = refl
-digit_assoc (suc zero) (suc zero) (suc zero) hx hy hz = refl
-digit_assoc (suc zero) (suc zero) (suc (suc z)) hx hy hz = absurd (omega arith)
-digit_assoc (suc zero) (suc (suc y)) z hx hy hz = absurd (omega arith)
-digit_assoc (suc (suc x)) y z hx hy hz = absurd (omega arith)
-
-by_digits : {a b : ℕ} → a / 2 ≡ b / 2 → a % 2 ≡ b % 2 → a ≡ b
-by_digits {a} {b} hi lo = omega arith
-
 or_assoc : (a b c : ℕ) → bit_or (bit_or a b) c ≡ bit_or a (bit_or b c)
-or_assoc =
-    bin_ind (λ (n : ℕ). (b c : ℕ) → bit_or (bit_or n b) c ≡ bit_or n (bit_or b c)) (λ b c. refl)
-    (λ n ih b c. by_digits
-    (or_shr (bit_or n b) c 1 ∙ ap (λ (x : ℕ). bit_or x (c / 2)) (or_shr n b 1) ∙ ih (b / 2) (c / 2)
-    ∙ sym (or_shr n (bit_or b c) 1 ∙ ap (bit_or (n / 2)) (or_shr b c 1)))
-    (or_mod (bit_or n b) c 1 ∙ ap (λ (x : ℕ). bit_or x (c % 2)) (or_mod n b 1)
-    ∙ digit_assoc (n % 2) (b % 2) (c % 2) (omega arith) (omega arith) (omega arith)
-    ∙ sym (or_mod n (bit_or b c) 1 ∙ ap (bit_or (n % 2)) (or_mod b c 1))))
-
-or_ge : (a b : ℕ) → a ≤ bit_or a b
-or_ge a b = omega (arith, or_add_and a b, and_le_r a b)
+or_assoc a b c = same_from_bits _ _ (λ i. omega (arith, bit_at_or (bit_or a b) c i, bit_at_or a b i, bit_at_or a (bit_or b c) i, bit_at_or b c i))
 
 or_trans : (a b c : ℕ) → bit_or a b ≡ b → bit_or b c ≡ c → bit_or a c ≡ c
 or_trans a b c p q = ap (bit_or a) (sym q) ∙ sym (or_assoc a b c) ∙ ap (λ (x : ℕ). bit_or x c) p ∙ q
@@ -65,7 +43,7 @@ zones_laws =
       before_total = less_total (λ z. z.bits) zones_same;
       at_most_before = λ a b p.
           let apart : a.bits ≡ b.bits → ⊥ = λ e. p.1 (zones_same a b e) in
-          let le = or_ge a.bits b.bits in
+          let le = le_or_l a.bits b.bits in
           let e = eqb-true _ _ p.0 in
           grind (arith, nat_tests);
     }

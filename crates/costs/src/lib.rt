@@ -2,6 +2,7 @@
 
 mod digits;
 mod kind;
+mod number;
 pub mod pair;
 mod pair_kind;
 mod promises;

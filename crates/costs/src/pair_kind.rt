@@ -12,30 +12,20 @@ impl<A: Text, B: Text> Text for Pair<A, B> {
     ghost texts = { pair_texts A.Text.texts B.Text.texts };
 
     fn text_len(&self, room: usize) -> Option<usize> {
-        let Some(first) = self.first.text_len(room) else {
-            return None;
-        };
+        let first = self.first.text_len(room)?;
         if first == room {
             return None;
         }
-        let Some(second) = self.second.text_len(room - first - 1) else {
-            return None;
-        };
+        let second = self.second.text_len(room - first - 1)?;
         Some(first + 1 + second)
     }
 
     // Asks for the length first, so that nothing is half written.
     fn write_text(&self, out: &mut [u8]) -> Option<usize> {
-        let Some(len) = self.text_len(out.len()) else {
-            return None;
-        };
-        let Some(first) = self.first.write_text(out) else {
-            unreachable()
-        };
+        let len = self.text_len(out.len())?;
+        let first = self.first.write_text(out).unwrap();
         out[first] = b' ';
-        let Some(_) = self.second.write_text(&mut out[first + 1..]) else {
-            unreachable()
-        };
+        self.second.write_text(&mut out[first + 1..len]).unwrap();
         Some(len)
     }
 }
@@ -64,12 +54,7 @@ impl<A: CostKind, B: CostKind> CostKind for Pair<A, B> {
     }
 
     fn before(self, other: Pair<A, B>) -> bool {
-        if self.first.before(other.first) {
-            true
-        } else if other.first.before(self.first) {
-            false
-        } else {
-            self.second.before(other.second)
-        }
+        self.first.before(other.first)
+            || !other.first.before(self.first) && self.second.before(other.second)
     }
 }

@@ -1,23 +1,17 @@
-ghost use Rattle.std.specs.Prelude.{decimal};
 ghost use Rattle.costs.specs.Totals.{total_kind};
 ghost use Rattle.costs.specs.TotalLaws.{total_texts, total_laws};
 
-use crate::digits::{decimal_len_within, write_decimal};
 use crate::kind::CostKind;
-use crate::text::Text;
+use crate::number::Number;
 use crate::total::Total;
 
-impl Text for Total {
-    ghost text = { λ c. decimal c.value };
+impl Number for Total {
+    ghost number = { λ c. c.value };
 
     ghost texts = { total_texts };
 
-    fn text_len(&self, room: usize) -> Option<usize> {
-        decimal_len_within(self.value as u64, room)
-    }
-
-    fn write_text(&self, out: &mut [u8]) -> Option<usize> {
-        write_decimal(self.value as u64, out)
+    fn number(self) -> u64 {
+        self.value.into()
     }
 }
 
@@ -37,10 +31,10 @@ impl CostKind for Total {
     }
 
     fn at_most(self, other: Total) -> bool {
-        self.value <= other.value
+        self <= other
     }
 
     fn before(self, other: Total) -> bool {
-        self.value < other.value
+        self < other
     }
 }

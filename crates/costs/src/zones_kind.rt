@@ -1,7 +1,7 @@
 ghost use Rattle.costs.specs.ZoneSets.{zones_kind, zones_text};
 ghost use Rattle.costs.specs.ZonesLaws.{zones_texts, zones_laws};
 
-use crate::digits::{decimal_len, put_decimal, put_hex_digits};
+use crate::digits::{decimal_len, write_decimal};
 use crate::kind::CostKind;
 use crate::text::Text;
 use crate::zones::Zones;
@@ -12,18 +12,16 @@ impl Text for Zones {
     ghost texts = { zones_texts };
 
     fn text_len(&self, room: usize) -> Option<usize> {
-        let len = decimal_len(self.bits.count_ones() as u64) + 17;
-        if len <= room { Some(len) } else { None }
+        let len = decimal_len(self.bits.count_ones().into()) + 17;
+        (len <= room).then_some(len)
     }
 
     // Asks for the length first, so that nothing is half written.
     fn write_text(&self, out: &mut [u8]) -> Option<usize> {
-        let Some(len) = self.text_len(out.len()) else {
-            return None;
-        };
-        let stroke = put_decimal(self.bits.count_ones() as u64, out);
+        let len = self.text_len(out.len())?;
+        let stroke = write_decimal(self.bits.count_ones().into(), out).unwrap();
         out[stroke] = b'/';
-        put_hex_digits(16, self.bits, &mut out[stroke + 1..]);
+        hex::encode_to_slice(self.bits.to_be_bytes(), &mut out[stroke + 1..len]).unwrap();
         Some(len)
     }
 }
@@ -48,6 +46,6 @@ impl CostKind for Zones {
     }
 
     fn before(self, other: Zones) -> bool {
-        self.bits < other.bits
+        self < other
     }
 }

@@ -6,7 +6,7 @@ use Rattle.std.specs.Char.{digit_value as value_of_digit}
 use Rattle.std.specs.List.{AllByRecursion}
 use Rattle.std.proofs.lemmas.Fmt.{decimal-digits_value, digits_decimal, decimal_nonempty, first_decimal, decimal_digit}
 use Rattle.std.proofs.lemmas.Int.Digits.{digits_value_more}
-use Rattle.std.proofs.ByRecursion.{All-get_or}
+use Rattle.std.proofs.lemmas.List.Elements.{All-from_recursion}
 use Rattle.std.proofs.lemmas.List.{take-append-drop}
 use Rattle.std.proofs.lemmas.Str.Parse.{IsNumeralModel, numerals_by_value}
 use Rattle.std.proofs.lemmas.Bool.{cases_eq}
@@ -22,7 +22,7 @@ digit_value c h = grind (arith, nat_tests)
 -- one digit more
 pub value_next : (bs : List ℕ) (i : ℕ) → i < length bs → AllByRecursion (IsInRange 48 57) bs → digits_value 10 (take (i + 1) bs) ≡ digits_value 10 (take i bs) * 10 + (get_or bs i 0 - 48)
 value_next bs i h ds =
-    digits_value_more 10 bs i h ∙ ap (λ d. digits_value 10 (take i bs) * 10 + d) (digit_value (get_or bs i 0) (All-get_or (IsInRange 48 57) bs i 0 h ds))
+    digits_value_more 10 bs i h ∙ ap (λ d. digits_value 10 (take i bs) * 10 + d) (digit_value (get_or bs i 0) (All-from_recursion (IsInRange 48 57) bs ds i 0 h))
 
 after_ge : (n : ℕ) (bs : List ℕ) → n ≤ digits_value_after 10 n bs
 after_ge n [] = omega arith

@@ -1,6 +1,4 @@
 ghost use Rattle.std.specs.Prelude.{Decides};
-ghost use Rattle.std.specs.Int.{IsInRange};
-ghost use Rattle.std.specs.List.{AllByRecursion};
 ghost use Rattle.digits.specs.Numbers.{BaseTen, NumberRead};
 
 // Why bytes are not read: they are not of the form, or they write a number above the most.
@@ -10,26 +8,14 @@ pub enum ReadFault {
     TooLarge,
 }
 
-// Whether every byte is a digit.
-fn all_digits(bytes: &[u8]) -> bool
-    ensures { Decides result (AllByRecursion (IsInRange 48 57) bytes.now) }
-{
-    for b in bytes {
-        if !b.is_ascii_digit() {
-            return false;
-        }
-    }
-    true
-}
-
 // Whether the bytes are a number in base ten, of any size.
 fn base_ten(bytes: &[u8]) -> bool
     ensures { Decides result (BaseTen bytes.now) }
 {
-    if bytes.is_empty() || bytes.len() > 1 && bytes[0] == b'0' {
-        return false;
+    match bytes {
+        [] | [b'0', _, ..] => false,
+        _ => bytes.iter().all(u8::is_ascii_digit),
     }
-    all_digits(bytes)
 }
 
 // The number that the bytes write in base ten, if at most `most`.

@@ -1,4 +1,4 @@
-use prices::{Answer, MOST_BYTES, front_page};
+use prices::{MOST_BYTES, front_page};
 use std::test::Fail;
 
 // A list's name, an input, and what is printed for it, on a page or not.
@@ -50,8 +50,8 @@ const CASES: [(&str, &str, &str); 21] = [
 fn prints_what_the_format_says(rt: HostRuntime) -> Result<(), Fail> {
     for (name, input, printed) in CASES {
         match front_page(name, input.as_bytes(), rt.alloc())? {
-            Answer::Page(page) => assert_eq!(rt; page.as_slice(), printed.as_bytes()),
-            Answer::NoPage(line) => assert_eq!(rt; line.as_str(), printed),
+            Ok(page) => assert_eq!(rt; page.as_slice(), printed.as_bytes()),
+            Err(line) => assert_eq!(rt; line.as_str(), printed),
         }
     }
     Ok(())
@@ -64,13 +64,13 @@ fn takes_no_more_than_the_most_bytes(rt: HostRuntime) -> Result<(), Fail> {
         input.extend_from_slice(b"1 1\n")?;
     }
     match front_page("costs", input.as_slice(), rt.alloc())? {
-        Answer::Page(page) => assert_eq!(rt; page.as_slice(), b"1 1\nkept 1 of 4096\n".as_slice()),
-        Answer::NoPage(_) => return Err(Fail::new("no page for the most bytes")),
+        Ok(page) => assert_eq!(rt; page.as_slice(), b"1 1\nkept 1 of 4096\n".as_slice()),
+        Err(_) => return Err(Fail::new("no page for the most bytes")),
     }
     input.push(b'\n')?;
     match front_page("costs", input.as_slice(), rt.alloc())? {
-        Answer::Page(_) => Err(Fail::new("a page for too many bytes")),
-        Answer::NoPage(line) => {
+        Ok(_) => Err(Fail::new("a page for too many bytes")),
+        Err(line) => {
             assert_eq!(rt; line.as_str(), "line 0: more than 16384 bytes\n");
             Ok(())
         },

@@ -1,6 +1,6 @@
 -- A row added to a front: removed are those that it beats, and it stands at its place among the others.
 -- Assumes nothing.
-use Rattle.std.proofs.Common.{◌≡◌, ℕ, ◌+◌, ◌<◌, ◌≤◌, false, List, [], ◌∷◌, length, take, sym, ap, ◌∙◌, inl, inr, arith}
+use Rattle.std.proofs.Common.{◌≡◌, ℕ, ◌+◌, ◌<◌, ◌≤◌, false, List, [], ◌∷◌, length, take, ap, inl, inr, arith}
 use Rattle.std.proofs.lemmas.List.{length-map, length-take}
 use Rattle.std.proofs.lemmas.Bool.{cases_Bool, cond-false}
 use Rattle.rules.specs.Kinds.{Kind}
@@ -8,7 +8,6 @@ use Rattle.rules.specs.Fronts.{Entry, covered, unbeaten, placed, added}
 use Rattle.fronts.specs.declared.row.Row.{Row}
 use Rattle.fronts.specs.Rows.{entry_of, in_use}
 use Rattle.fronts.specs.Changes.{Holds}
-use Rattle.fronts.proofs.Parts.{drop_later}
 use Rattle.fronts.proofs.Insertions.{length-placed}
 
 -- the rows in use are among the rows
@@ -18,18 +17,6 @@ holds_within {rows = rows} {n = n} h = omega (arith, h.count, ap length h.front,
 module _ {C : Type 0} (k : Kind C) where
   added_new : (es : List (Entry C ℕ)) (x : Entry C ℕ) → covered k es x.cost ≡ false → added k es x ≡ placed k (unbeaten k es x.cost) x
   added_new es x = cond-false (covered k es x.cost) es (placed k (unbeaten k es x.cost) x)
-
-  -- what is put among those that stay is what is added
-  pub added_holds : (xs ys zs : List (Row C)) (len n : ℕ) (r : Row C) → covered k (in_use len xs) r.cost ≡ false →
-      Holds (unbeaten k (in_use len xs) r.cost) xs ys n → Holds (placed k (in_use n ys) (entry_of r)) ys zs (n + 1) → Holds (added k (in_use len xs) (entry_of r)) xs zs (n + 1)
-  added_holds xs ys zs len n r new stay put =
-      let same : placed k (in_use n ys) (entry_of r) ≡ added k (in_use len xs) (entry_of r) = ap (λ es. placed k es (entry_of r)) stay.front ∙ sym (added_new (in_use len xs) (entry_of r) new) in
-      record {
-        long = put.long ∙ stay.long;
-        count = put.count ∙ ap length same;
-        front = put.front ∙ same;
-        rest = put.rest ∙ drop_later n (n + 1) xs ys (omega arith) stay.rest;
-      }
 
   -- where those that stay fill the slice, one more is too many
   pub added_too_long : (es : List (Entry C ℕ)) (x : Entry C ℕ) (room : ℕ) → covered k es x.cost ≡ false → room ≤ length (unbeaten k es x.cost) → room < length (added k es x)

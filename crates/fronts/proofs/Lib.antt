@@ -1,5 +1,5 @@
 pub mod Parts
-pub mod Stepping
+pub mod Chains
 pub mod Removals
 pub mod Insertions
 pub mod Additions

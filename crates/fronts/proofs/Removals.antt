@@ -9,7 +9,7 @@ use Rattle.rules.specs.Fronts.{unbeaten}
 use Rattle.fronts.specs.declared.row.Row.{Row}
 use Rattle.fronts.specs.Rows.{entry_of, entries, in_use}
 use Rattle.fronts.specs.Changes.{Holds}
-use Rattle.fronts.proofs.Parts.{take_min, drop_later}
+use Rattle.fronts.proofs.Parts.{take_up_to, drop_later}
 
 -- what passes p in the first i of xs stands in the first n of ys, and from n on ys is as xs
 pub record Removing {X : Type 0} (p : X → Bool) (xs ys : List X) (n i : ℕ) : Type 0 where
@@ -32,13 +32,13 @@ module _ {C : Type 0} (k : Kind C) (c : C) where
   abbrev pub unbeaten_row : Row C → Bool
   unbeaten_row r = not (k.at_most c r.cost)
 
-  entries-kept : (rs : List (Row C)) → entries (filter unbeaten_row rs) ≡ unbeaten k (entries rs) c
+  pub entries-kept : (rs : List (Row C)) → entries (filter unbeaten_row rs) ≡ unbeaten k (entries rs) c
   entries-kept [] = refl
   entries-kept (r ∷ rs) =
       elim (cases_Bool (k.at_most c r.cost)) [ inl e ↦ rw e (entries-kept rs) | inr e ↦ rw e (ap (λ es. entry_of r ∷ es) (entries-kept rs)) ]
 
   pub removed_holds : (xs ys : List (Row C)) (len n i : ℕ) → Removing unbeaten_row xs ys n i → i ≡ min len (length xs) → Holds (unbeaten k (in_use len xs) c) xs ys n
   removed_holds xs ys len n i h e =
-      let front : in_use n ys ≡ unbeaten k (in_use len xs) c = ap entries (h.keeping.front ∙ ap (filter unbeaten_row) (take_min len i xs e)) ∙ entries-kept (take len xs) in
+      let front : in_use n ys ≡ unbeaten k (in_use len xs) c = ap entries (h.keeping.front ∙ ap (filter unbeaten_row) (take_up_to len i xs e)) ∙ entries-kept (take len xs) in
       let within : n ≤ length ys = omega (arith, h.keeping.behind, h.keeping.within, h.keeping.long) in
       record { long = h.keeping.long; count = sym (length-take-le n ys within) ∙ sym (length-map (take n ys) entry_of) ∙ ap length front; front = front; rest = h.rest }

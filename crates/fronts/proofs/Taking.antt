@@ -13,7 +13,7 @@ use Rattle.fronts.specs.Rows.{entry_of, entries, in_use}
 use Rattle.fronts.specs.Changes.{Adds}
 use Rattle.fronts.specs.Lists.{used_after_add}
 use Rattle.fronts.specs.Whole.{Fits, Whole, Outgrown}
-use Rattle.fronts.proofs.Parts.{take_min, drop_later}
+use Rattle.fronts.proofs.Parts.{take_up_to, drop_later}
 use Rattle.fronts.proofs.Additions.{added_few}
 use Rattle.fronts.proofs.WholeFronts.{front_more, is_whole}
 
@@ -102,7 +102,7 @@ module _ {C : Type 0} (k : Kind C) (given : List (Row C)) where
       let all : in_use i given ≡ entries given = ap entries (take_all i given (omega arith)) in
       let held : in_use len rows ≡ front_of k (entries given) = h.held ∙ ap (front_of k) all in
       let used : n ≡ min len (length rows) = e ∙ length-map (take len rows) entry_of ∙ length-take len rows in
-      let front : in_use n last ≡ front_of k (entries given) = ap (in_use n) same ∙ ap entries (take_min len n rows used) ∙ held in
+      let front : in_use n last ≡ front_of k (entries given) = ap (in_use n) same ∙ ap entries (take_up_to len n rows used) ∙ held in
       let long : length last ≡ length start = ap length same ∙ h.long in
       record {
         count = e ∙ ap length held;

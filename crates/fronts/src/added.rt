@@ -1,4 +1,5 @@
 // What became of a row that was to be added to a front.
+// Of these three only the last is a failure, so a `Result` would hold an `Option`, and say no more than the names here.
 #[derive(Clone, Copy, PartialEq, Eq, Debug)]
 pub enum Added {
     // A row in use costs at most as much.

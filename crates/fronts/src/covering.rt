@@ -9,11 +9,5 @@ use costs::CostKind;
 pub fn covers<C: CostKind>(rows: &[Row<C>], len: usize, cost: C) -> bool
     ensures { result ≡ covered C.CostKind.kind (in_use len rows.now) cost }
 {
-    let used = len.min(rows.len());
-    for i in 0..used {
-        if rows[i].cost.at_most(cost) {
-            return true;
-        }
-    }
-    false
+    rows.iter().take(len).any(|row| row.cost.at_most(cost))
 }

@@ -19,7 +19,8 @@ pub struct FrontList<'a, C> {
     len: usize,
 }
 
-// Each method keeps the slice that is lent, so that its owner knows afterwards what it holds.
+// Each method keeps the slice that is lent, so that its owner knows afterwards what it holds: that is a fact of two states, which
+// no invariant can say, and one equation where it is said.
 impl<'a, C: CostKind> FrontList<'a, C> {
     // No row is in use.
     pub fn new(rows: &'a mut [Row<C>]) -> FrontList<'a, C>
@@ -36,8 +37,8 @@ impl<'a, C: CostKind> FrontList<'a, C> {
         ensures rows { result.rows.now ≡ rows.old }
         ensures same { result.rows.ghost_name ≡ rows.entry.ghost_name }
     {
-        let used = len.min(rows.len());
-        FrontList { rows, len: used }
+        let len = len.min(rows.len());
+        FrontList { rows, len }
     }
 
     // How many rows are in use.
@@ -57,8 +58,7 @@ impl<'a, C: CostKind> FrontList<'a, C> {
         ensures holds { Holds (unbeaten C.CostKind.kind (listed self.old) cost) self.old.rows.now self.new.rows.now self.new.len }
         ensures same { self.new.rows.ghost_name ≡ self.old.rows.ghost_name }
     {
-        let len = self.len;
-        self.len = remove_beaten(self.rows, len, cost);
+        self.len = remove_beaten(self.rows, self.len, cost);
     }
 
     // How many rows are in use then; none where the slice has no row left.
@@ -67,12 +67,8 @@ impl<'a, C: CostKind> FrontList<'a, C> {
         ensures len { self.new.len ≡ used_after result self.old.len }
         ensures same { self.new.rows.ghost_name ≡ self.old.rows.ghost_name }
     {
-        let len = self.len;
-        let answer = insert(self.rows, len, row);
-        if let Some(used) = answer {
-            self.len = used;
-        }
-        answer
+        self.len = insert(self.rows, self.len, row)?;
+        Some(self.len)
     }
 
     pub fn add(&mut self, row: Row<C>) -> Added
@@ -80,8 +76,7 @@ impl<'a, C: CostKind> FrontList<'a, C> {
         ensures len { self.new.len ≡ used_after_add result self.old.len }
         ensures same { self.new.rows.ghost_name ≡ self.old.rows.ghost_name }
     {
-        let len = self.len;
-        let answer = add(self.rows, len, row);
+        let answer = add(self.rows, self.len, row);
         if let Added::Listed(used) = answer {
             self.len = used;
         }

@@ -12,8 +12,8 @@ pub fn front_of<C: CostKind>(given: &[Row<C>], rows: &mut [Row<C>]) -> Option<us
     ensures { Fronted C.CostKind.kind given.now rows.old rows.new result }
 {
     let mut list = FrontList::new(rows);
-    for i in 0..given.len() {
-        if let Added::NoRow = list.add(given[i]) {
+    for row in given {
+        if let Added::NoRow = list.add(*row) {
             return None;
         }
     }

@@ -4,15 +4,15 @@
 // The best of the times, in nanoseconds, goes to standard error. `bench/` has the same search in plain Rust, and says how a case is written.
 use crate::running::run_case;
 use crate::words::Words;
-use anyhow::anyhow;
+use anyhow::bail;
 use costs::{Pair, Total, Worst, Zones};
 use std::io;
 
 mod case;
 mod floors_read;
-mod printing;
+mod refused;
 mod running;
-mod timing;
+mod search;
 mod worded;
 mod words;
 
@@ -23,7 +23,7 @@ fn run(rt: &HostRuntime) -> anyhow::Result<()> {
     match words.word()? {
         "costs" => run_case::<Pair<Total, Worst>>(rt, &mut words),
         "zones" => run_case::<Zones>(rt, &mut words),
-        _ => Err(anyhow!("the first word is not costs or zones")),
+        _ => bail!("the first word is not costs or zones"),
     }
 }
 

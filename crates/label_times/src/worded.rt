@@ -6,20 +6,35 @@ pub trait Worded: CostKind {
     fn read(words: &mut Words<'_>) -> anyhow::Result<Self>;
 }
 
-impl Worded for Pair<Total, Worst> {
-    fn read(words: &mut Words<'_>) -> anyhow::Result<Pair<Total, Worst>> {
-        let total = words.number::<u32>()?;
-        let worst = words.number::<u16>()?;
+impl Worded for Total {
+    fn read(words: &mut Words<'_>) -> anyhow::Result<Total> {
+        Ok(Total {
+            value: words.number()?,
+        })
+    }
+}
+
+impl Worded for Worst {
+    fn read(words: &mut Words<'_>) -> anyhow::Result<Worst> {
+        Ok(Worst {
+            value: words.number()?,
+        })
+    }
+}
+
+impl<A: Worded, B: Worded> Worded for Pair<A, B> {
+    fn read(words: &mut Words<'_>) -> anyhow::Result<Pair<A, B>> {
         Ok(Pair {
-            first: Total { value: total },
-            second: Worst { value: worst },
+            first: A::read(words)?,
+            second: B::read(words)?,
         })
     }
 }
 
 impl Worded for Zones {
     fn read(words: &mut Words<'_>) -> anyhow::Result<Zones> {
-        let bits = words.number::<u64>()?;
-        Ok(Zones { bits })
+        Ok(Zones {
+            bits: words.number()?,
+        })
     }
 }

@@ -1,40 +1,30 @@
 use crate::all_walks::{all_beginnings, walks_of};
-use crate::beginning::{Beginning, MOST_TICKS};
+use crate::beginning::Beginning;
 use crate::costs_kept::{contains, same_cost, undominated};
-use carts::{Cart, Constraint};
+use crate::generated::Generated;
+use crate::trial::Trial;
+use carts::Constraint;
 use costs::CostKind;
 use floors::Floor;
 use labels::{LabelRow, Query, count_labels, count_offers, take_offer};
 use std::alloc::{AllocError, Global};
 
-// The beginnings of `count` moves that end at a place.
-fn reaching<C: CostKind>(
-    heap: Global,
-    beginnings: &[Beginning<C>],
-    count: u8,
-    place: u8,
-) -> Result<Vec<Beginning<C>>, AllocError> {
-    let mut found = Vec::new(heap);
-    for beginning in beginnings {
-        if beginning.moves == count && beginning.places[MOST_TICKS] == place {
-            found.push(*beginning)?;
-        }
-    }
-    Ok(found)
-}
-
 // How many labels there are: the undominated costs of each tick and place.
-fn label_total<C: CostKind>(
+fn label_total<F: Floor, C: CostKind>(
     heap: Global,
+    query: &Query<'_, F, C, Constraint>,
     beginnings: &[Beginning<C>],
-    places: u8,
 ) -> Result<usize, AllocError> {
     let mut total = 0usize;
-    for count in 0..MOST_TICKS as u8 + 1 {
-        for place in 0..places {
-            let here = reaching(heap, beginnings, count, place)?;
-            let costs = undominated(heap, here.as_slice())?;
-            total = total.saturating_add(costs.len());
+    for moves in 0..=query.horizon {
+        for place in 0..query.floor.places() {
+            let costs: Vec<C> = beginnings
+                .iter()
+                .filter(|beginning| beginning.moves == moves && beginning.end() == place)
+                .map(|beginning| beginning.cost)
+                .collect(heap)?;
+            let labels = undominated(heap, costs.as_slice())?.len();
+            total = total.saturating_add(labels);
         }
     }
     Ok(total)
@@ -42,39 +32,13 @@ fn label_total<C: CostKind>(
 
 // Whether a walk has the cost, and arrives no later than any other that has it.
 fn is_earliest<C: CostKind>(walks: &[Beginning<C>], walk: &Beginning<C>, cost: C) -> bool {
-    for other in walks {
-        if same_cost(other.cost, cost) && other.moves < walk.moves {
-            return false;
-        }
-    }
     same_cost(walk.cost, cost)
-}
-
-// Whether a walk is at the given places from tick 0 on.
-fn same_places<C: CostKind>(walk: &Beginning<C>, places: &[u8]) -> bool {
-    for (place, other) in walk.places.iter().zip(places.iter()) {
-        if *place != *other {
-            return false;
-        }
-    }
-    true
+        && walks.iter().all(|other| !same_cost(other.cost, cost) || walk.moves <= other.moves)
 }
 
 // Whether the places are those of a walk that has the cost, and arrives no later than any other that has it.
 fn is_walked<C: CostKind>(walks: &[Beginning<C>], cost: C, places: &[u8]) -> bool {
-    for walk in walks {
-        if same_places(walk, places) && is_earliest(walks, walk, cost) {
-            return true;
-        }
-    }
-    false
-}
-
-fn comes_after<C: CostKind>(last: Option<C>, cost: C) -> bool {
-    match last {
-        Some(before) => before.before(cost),
-        None => true,
-    }
+    walks.iter().any(|walk| walk.places.starts_with(places) && is_earliest(walks, walk, cost))
 }
 
 // Whether the offers, `count` of them, are the undominated costs of the walks, each once and in order, each with a walk that has it, and no more.
@@ -85,44 +49,44 @@ fn offers_agree<F: Floor, C: CostKind>(
     count: u16,
     rows: &mut [LabelRow<C>],
 ) -> Result<bool, AllocError> {
-    let costs = undominated(heap, walks)?;
-    let mut places = vec![in heap; 0u8; query.horizon as usize + 1]?;
-    let mut last = None;
+    let walk_costs: Vec<C> = walks.iter().map(|walk| walk.cost).collect(heap)?;
+    let costs = undominated(heap, walk_costs.as_slice())?;
+    let mut places = vec![in heap; 0u8; usize::from(query.horizon) + 1]?;
+    let mut last: Option<C> = None;
     for number in 0..count {
         let Ok(Some(cost)) = take_offer(query, number, rows, places.as_mut_slice()) else {
             return Ok(false);
         };
         if !contains(costs.as_slice(), cost)
-            || !comes_after(last, cost)
+            || !last.is_none_or(|before| before.before(cost))
             || !is_walked(walks, cost, places.as_slice())
         {
             return Ok(false);
         }
         last = Some(cost);
     }
-    Ok(
-        count as usize == costs.len()
-            && matches!(
-                take_offer(query, count, rows, places.as_mut_slice()),
-                Ok(None)
-            ),
-    )
+    let no_more = matches!(
+        take_offer(query, count, rows, places.as_mut_slice()),
+        Ok(None)
+    );
+    Ok(usize::from(count) == costs.len() && no_more)
 }
 
 // The number of offers, if the label search and the search that tries every walk agree: in the number of labels and in all offers.
-pub(crate) fn compare<F: Floor, C: CostKind>(
+pub(crate) fn compare<F: Floor, C: Generated>(
     heap: Global,
-    query: &Query<'_, F, C, Constraint>,
-    cart: Cart,
+    trial: &Trial<'_, F, C>,
     rows: &mut [LabelRow<C>],
 ) -> Result<Option<u16>, AllocError> {
-    let beginnings = all_beginnings(heap, query, cart.start)?;
-    let walks = walks_of(heap, query, cart.goal, beginnings.as_slice())?;
-    let total = label_total(heap, beginnings.as_slice(), query.floor.places())?;
-    let (Ok(labels), Ok(offers)) = (count_labels(query, rows), count_offers(query, rows)) else {
+    let query = trial.query();
+    let cart = trial.searched();
+    let beginnings = all_beginnings(heap, &query, cart.start)?;
+    let walks = walks_of(heap, &query, cart.goal, beginnings.as_slice())?;
+    let total = label_total(heap, &query, beginnings.as_slice())?;
+    let (Ok(labels), Ok(offers)) = (count_labels(&query, rows), count_offers(&query, rows)) else {
         return Ok(None);
     };
-    let agree = labels as usize == total
-        && offers_agree(heap, query, walks.as_slice(), offers, rows)?;
-    Ok(if agree { Some(offers) } else { None })
+    let agree = usize::from(labels) == total
+        && offers_agree(heap, &query, walks.as_slice(), offers, rows)?;
+    Ok(agree.then_some(offers))
 }

@@ -1,32 +1,42 @@
 use crate::numbers::Numbers;
 use costs::{CostKind, Pair, Total, Worst, Zones};
 
-// A kind of cost whose tariff lines can be made from numbers. They are few, so that walks of equal costs occur.
+// A kind of cost whose tariff lines can be made from numbers. They are few, so that walks of equal costs occur. `label_times` has the like for words,
+// whose lines can be wrong: one trait for both would put an error here, where none comes.
 pub trait Generated: CostKind {
     fn generate(numbers: &mut Numbers) -> Self;
 }
 
-impl Generated for Pair<Total, Worst> {
-    fn generate(numbers: &mut Numbers) -> Pair<Total, Worst> {
-        let total = numbers.below(4) as u32;
-        let worst = numbers.below(4) as u16;
-        Pair {
-            first: Total { value: total },
-            second: Worst { value: worst },
+impl Generated for Total {
+    fn generate(numbers: &mut Numbers) -> Total {
+        Total {
+            value: u32::from(numbers.below(4)),
         }
     }
 }
 
-// Up to three of the zones 0 to 2, and zone 63.
+impl Generated for Worst {
+    fn generate(numbers: &mut Numbers) -> Worst {
+        Worst {
+            value: u16::from(numbers.below(4)),
+        }
+    }
+}
+
+impl<A: Generated, B: Generated> Generated for Pair<A, B> {
+    fn generate(numbers: &mut Numbers) -> Pair<A, B> {
+        Pair {
+            first: A::generate(numbers),
+            second: B::generate(numbers),
+        }
+    }
+}
+
+// Up to three of the zones 0 to 2, or zone 63.
 impl Generated for Zones {
     fn generate(numbers: &mut Numbers) -> Zones {
-        let low = numbers.below(8) as u64;
-        if numbers.below(4) == 0 {
-            Zones {
-                bits: 9223372036854775808,
-            }
-        } else {
-            Zones { bits: low }
-        }
+        let low = u64::from(numbers.below(8));
+        let bits = if numbers.below(4) == 0 { 1 << 63 } else { low };
+        Zones { bits }
     }
 }

@@ -1,6 +1,7 @@
 #![tactic(auto)]
 
 // Runs the label search on many small floors beside a search that tries every walk, and prints how often the two agree.
+use crate::generated::Generated;
 use crate::settings::{TRIALS, run_setting};
 use costs::{Pair, Total, Worst, Zones};
 
@@ -14,16 +15,17 @@ mod numbers;
 mod settings;
 mod trial;
 
+// Runs a kind of cost without constraints and with up to 8 of them, and says how many trials agree.
+fn run_kind<C: Generated>(rt: &HostRuntime, kind: &str) -> anyhow::Result<u32> {
+    let without = run_setting::<C>(rt, kind, 0)?;
+    let with = run_setting::<C>(rt, kind, 8)?;
+    Ok(without.saturating_add(with))
+}
+
 fn run(rt: &HostRuntime) -> anyhow::Result<()> {
-    let costs = run_setting::<Pair<Total, Worst>>(rt, "costs without constraints", 0)? as u32;
-    let costs_constrained = run_setting::<Pair<Total, Worst>>(
-        rt,
-        "costs with constraints",
-        8,
-    )? as u32;
-    let zones = run_setting::<Zones>(rt, "zones without constraints", 0)? as u32;
-    let zones_constrained = run_setting::<Zones>(rt, "zones with constraints", 8)? as u32;
-    let agreed = costs + costs_constrained + zones + zones_constrained;
+    let costs = run_kind::<Pair<Total, Worst>>(rt, "costs")?;
+    let zones = run_kind::<Zones>(rt, "zones")?;
+    let agreed = costs.saturating_add(zones);
     let trials = 4 * TRIALS;
     println!(rt; "all settings: {agreed} of {trials} agree")?;
     Ok(())

@@ -2,10 +2,10 @@ use crate::comparing::compare;
 use crate::floors_made::{make_grid, make_lanes};
 use crate::generated::Generated;
 use crate::numbers::Numbers;
-use crate::trial::make_trial;
+use crate::trial::Trial;
 use costs::CostKind;
 use floors::Floor;
-use labels::{LabelRow, Query};
+use labels::LabelRow;
 use std::alloc::{AllocError, Global};
 
 // How many trials a setting has.
@@ -13,78 +13,65 @@ pub const TRIALS: u16 = 500;
 
 const ROWS: usize = 4096;
 
-fn make_rows<C: CostKind>(heap: Global) -> Result<Vec<LabelRow<C>>, AllocError> {
-    let mut rows = Vec::with_capacity(heap, ROWS)?;
-    for _ in 0..ROWS {
-        rows.push(LabelRow {
+// What its trials have in common: the numbers that they are made from, how many constraints they have at most, and rows for labels.
+#[derive(Drop)]
+struct Setting<C: CostKind> {
+    heap: Global,
+    numbers: Numbers,
+    most: u8,
+    rows: Vec<LabelRow<C>>,
+}
+
+impl<C: Generated> Setting<C> {
+    fn new(heap: Global, most: u8) -> Result<Setting<C>, AllocError> {
+        let row = LabelRow {
             cost: C::zero(),
             parent: 0,
             place: 0,
-        })?;
+        };
+        Ok(Setting {
+            heap,
+            numbers: Numbers::new(1),
+            most,
+            rows: vec![in heap; row; ROWS]?,
+        })
     }
-    Ok(rows)
-}
 
-// One trial on a floor, with at most so many constraints: the number of offers, if the searches agree.
-fn run_trial<F: Floor, C: Generated>(
-    heap: Global,
-    numbers: &mut Numbers,
-    floor: &F,
-    most: u8,
-    rows: &mut [LabelRow<C>],
-) -> anyhow::Result<Option<u16>> {
-    let trial = make_trial::<F, C>(heap, numbers, floor, most)?;
-    let query = Query {
-        floor,
-        tariff: trial.tariff.as_slice(),
-        carts: &trial.carts,
-        horizon: trial.horizon,
-        constraints: trial.constraints.as_slice(),
-        cart: trial.cart,
-    };
-    Ok(compare(heap, &query, trial.searched(), rows)?)
-}
+    // One trial on a floor: the number of offers, if the searches agree.
+    fn run_on<F: Floor>(&mut self, floor: &F) -> Result<Option<u16>, AllocError> {
+        let trial = Trial::generate(self.heap, &mut self.numbers, floor, self.most)?;
+        compare(self.heap, &trial, self.rows.as_mut_slice())
+    }
 
-// One trial on a grid, or on a floor of lanes.
-fn run_numbered<C: Generated>(
-    heap: Global,
-    numbers: &mut Numbers,
-    number: u16,
-    most: u8,
-    rows: &mut [LabelRow<C>],
-) -> anyhow::Result<Option<u16>> {
-    if number % 2 == 0 {
-        let floor = make_grid(heap, numbers)?;
-        run_trial(heap, numbers, &floor, most, rows)
-    } else {
-        let floor = make_lanes(numbers)?;
-        run_trial(heap, numbers, &floor, most, rows)
+    // One trial, on a grid or on a floor of lanes by turns.
+    fn run(&mut self, number: u16) -> anyhow::Result<Option<u16>> {
+        let offers = if number % 2 == 0 {
+            let floor = make_grid(self.heap, &mut self.numbers)?;
+            self.run_on(&floor)?
+        } else {
+            let floor = make_lanes(&mut self.numbers)?;
+            self.run_on(&floor)?
+        };
+        Ok(offers)
     }
 }
 
 // Runs all trials of a kind of cost with at most so many constraints, prints how many agree and how many offers those have, and says how many agree.
 pub(crate) fn run_setting<C: Generated>(
     rt: &HostRuntime,
-    name: &str,
+    kind: &str,
     most: u8,
-) -> anyhow::Result<u16> {
-    let heap = rt.alloc();
-    let mut numbers = Numbers::new(1);
-    let mut rows = make_rows::<C>(heap)?;
-    let mut agreed = 0u16;
+) -> anyhow::Result<u32> {
+    let mut setting = Setting::<C>::new(rt.alloc(), most)?;
+    let mut agreed = 0u32;
     let mut offers = 0u32;
     for number in 0..TRIALS {
-        if let Some(count) = run_numbered::<C>(
-            heap,
-            &mut numbers,
-            number,
-            most,
-            rows.as_mut_slice(),
-        )? {
+        if let Some(count) = setting.run(number)? {
             agreed = agreed.saturating_add(1);
-            offers = offers.saturating_add(count as u32);
+            offers = offers.saturating_add(u32::from(count));
         }
     }
-    println!(rt; "{name}: {agreed} of {TRIALS} agree, with {offers} offers")?;
+    let with = if most == 0 { "without" } else { "with" };
+    println!(rt; "{kind} {with} constraints: {agreed} of {TRIALS} agree, with {offers} offers")?;
     Ok(agreed)
 }

@@ -1,43 +1,30 @@
+ghost use Rattle.std.specs.Prelude.{◌≤◌};
+
 use crate::floors_made::LINES;
 use crate::generated::Generated;
 use crate::numbers::Numbers;
 use carts::{Cart, Constraint};
 use floors::Floor;
+use labels::Query;
 use std::alloc::{AllocError, Global};
 
-// A trial besides its floor: two carts, and which of them is searched for.
+// A trial on a floor: two carts, and which of them is searched for.
 #[derive(Drop)]
-pub struct Trial<C: Drop> {
-    pub tariff: Vec<C>,
-    pub carts: [Cart; 2],
-    pub cart: u8,
-    pub horizon: u8,
-    pub constraints: Vec<Constraint>,
-}
-
-impl<C: Drop> Trial<C> {
-    // The cart that is searched for.
-    pub(crate) fn searched(&self) -> Cart {
-        if self.cart == 0 {
-            self.carts[0]
-        } else {
-            self.carts[1]
-        }
-    }
-}
-
-fn make_tariff<C: Generated>(heap: Global, numbers: &mut Numbers) -> Result<Vec<C>, AllocError> {
-    let mut tariff = Vec::new(heap);
-    for _ in 0..LINES {
-        tariff.push(C::generate(numbers))?;
-    }
-    Ok(tariff)
+pub struct Trial<'a, F, C: Drop> {
+    floor: &'a F,
+    tariff: Vec<C>,
+    carts: [Cart; 2],
+    cart: u8,
+    horizon: u8,
+    constraints: Vec<Constraint>,
+    ghost known: { cart ≤ 1 },
 }
 
 fn make_cart(numbers: &mut Numbers, places: u8) -> Cart {
-    let start = numbers.below(places);
-    let goal = numbers.below(places);
-    Cart { start, goal }
+    Cart {
+        start: numbers.below(places),
+        goal: numbers.below(places),
+    }
 }
 
 // A constraint on one of two carts: on a place, on the goal, or on a move of the floor.
@@ -71,41 +58,53 @@ fn make_constraint<F: Floor>(
     }
 }
 
-// Puts up to `most` constraints on the carts of a trial, and at least one.
-fn add_constraints<F: Floor, C: Generated>(
-    trial: &mut Trial<C>,
-    numbers: &mut Numbers,
-    floor: &F,
-    most: u8,
-) -> Result<(), AllocError> {
-    let goal = trial.searched().goal;
-    for _ in 0..numbers.below(most) as u16 + 1 {
-        trial
-            .constraints
-            .push(make_constraint(numbers, floor, goal, trial.horizon))?;
+impl<'a, F: Floor, C: Generated> Trial<'a, F, C> {
+    // A trial with one to `most` constraints on its carts; with none where that is 0.
+    pub(crate) fn generate(
+        heap: Global,
+        numbers: &mut Numbers,
+        floor: &'a F,
+        most: u8,
+    ) -> Result<Trial<'a, F, C>, AllocError> {
+        let tariff = (0..LINES).map(|_| C::generate(numbers)).collect(heap)?;
+        let carts = [
+            make_cart(numbers, floor.places()),
+            make_cart(numbers, floor.places()),
+        ];
+        let cart = numbers.below(2);
+        let goal = carts[usize::from(cart)].goal;
+        let horizon = numbers.below(4) + 1;
+        let count = if most == 0 {
+            0
+        } else {
+            numbers.below(most) + 1
+        };
+        let constraints = (0..count)
+            .map(|_| make_constraint(numbers, floor, goal, horizon))
+            .collect(heap)?;
+        Ok(Trial {
+            floor,
+            tariff,
+            carts,
+            cart,
+            horizon,
+            constraints,
+        })
     }
-    Ok(())
-}
 
-// A trial on a floor, with up to `most` constraints; with none where that is 0.
-pub(crate) fn make_trial<F: Floor, C: Generated>(
-    heap: Global,
-    numbers: &mut Numbers,
-    floor: &F,
-    most: u8,
-) -> Result<Trial<C>, AllocError> {
-    let mut trial = Trial {
-        tariff: make_tariff::<C>(heap, numbers)?,
-        carts: [
-            make_cart(numbers, floor.places()),
-            make_cart(numbers, floor.places()),
-        ],
-        cart: numbers.below(2),
-        horizon: numbers.below(4) + 1,
-        constraints: Vec::new(heap),
-    };
-    if most > 0 {
-        add_constraints(&mut trial, numbers, floor, most)?;
+    // The cart that is searched for.
+    pub(crate) fn searched(&self) -> Cart {
+        self.carts[usize::from(self.cart)]
     }
-    Ok(trial)
+
+    pub(crate) fn query(&self) -> Query<'_, F, C, Constraint> {
+        Query {
+            floor: self.floor,
+            tariff: self.tariff.as_slice(),
+            carts: &self.carts,
+            horizon: self.horizon,
+            constraints: self.constraints.as_slice(),
+            cart: self.cart,
+        }
+    }
 }

@@ -1,26 +1,29 @@
 -- From the tables to the answers: what is refused, and what the counts and walks promise.
 -- Assumes nothing.
-use Rattle.std.proofs.Common.{◌≡◌, ℕ, zero, suc, ◌+◌, ◌-◌, ◌<◌, ◌≤◌, Bool, true, false, cond, eqb, ltb, leb, List, [], ◌∷◌, map, length, take, replicate, Some, None, Ok, Option, sym, refl, ap, ◌∙◌, subst, arith}
+use Rattle.std.proofs.Common.{◌≡◌, ℕ, zero, suc, ◌+◌, ◌<◌, ◌≤◌, Bool, true, false, cond, eqb, ltb, leb, List, [], ◌∷◌, map, length, take, Some, None, Ok, Option, Result, sym, refl, ap, ◌∙◌, subst, arith}
 use Rattle.std.specs.Option.{option_map}
 use Rattle.std.specs.List.{AllByRecursion, slice_get}
-use Rattle.std.proofs.lemmas.List.{length-append, length-map, length-replicate, length-reverse}
+use Rattle.std.proofs.lemmas.List.{length-map, length-reverse}
 use Rattle.std.proofs.lemmas.Bool.{ltb-false, leb-false, eq-eqb, cond-true}
 use Rattle.floors.specs.Floors.{FloorBounds}
 use Rattle.rules.specs.Kinds.{Laws}
 use Rattle.rules.specs.Fronts.{Front, front_of}
 use Rattle.rules.specs.Instances.{Sound, cart_count, start_of, goal_of}
-use Rattle.rules.specs.Offers.{Label}
+use Rattle.rules.specs.Offers.{Label, Serves}
+use Rattle.rules.specs.Walks.{Walk}
+use Rattle.std.proofs.ByRecursion.{All-weaker}
 use Rattle.rules.proofs.Offers.{offers_served, offers_right}
+use Rattle.labels.specs.declared.arrivals.Arrivals.{Arrivals}
 use Rattle.labels.specs.declared.landing.Landing.{Landing}
-use Rattle.labels.specs.declared.landing.Offer.{Offer}
 use Rattle.labels.specs.declared.row.LabelRow.{LabelRow}
 use Rattle.labels.specs.declared.refusal.LabelRefusal.{LabelRefusal}
 use Rattle.labels.specs.declared.refusal.LabelRefusal.TheVariants.{WrongLength, HorizonTooLong, TooManyRows, NoSuchCart, StartOffFloor, GoalOffFloor}
-use Rattle.labels.specs.Answers.{refusal, hindrance, walk_hindrance, Solved, Inside, PermittedCost, CountPromise, Written, WalkPromise, walked}
+use Rattle.labels.specs.Answers.{told, refusal, hindrance, walk_hindrance, Solved, ArrivalsOf, Inside, PermittedCost, CountPromise, Written, WalkPromise, walked}
 use Rattle.labels.specs.Arrivals.{LandingOf}
-use Rattle.labels.specs.Landings.{Lands, landed, shown_offer}
+use Rattle.labels.specs.Choices.{arrived}
+use Rattle.labels.specs.Landings.{Lands, landed}
 use Rattle.labels.specs.Queries.{Asked, place_count, offers_of}
-use Rattle.labels.specs.Rows.{shown, trace_at}
+use Rattle.labels.specs.Rows.{shown}
 use Rattle.labels.proofs.Arriving.{lands, landed_is, offers_few}
 
 module _ {C : Type 0} (a : Asked C) (rows : ℕ) where
@@ -49,9 +52,13 @@ module _ {C : Type 0} (a : Asked C) (rows : ℕ) where
     pub known : a.cart < cart_count a.inst
     pub inside : goal_of a.inst a.cart < place_count a
 
-  pub admitted : refusal a rows ≡ None → Admitted
-  admitted none =
-      let f = passes _ _ _ _ _ none in
+  unhindered : (o : Option LabelRefusal) → ◌≡◌ {A = Result (Unit {0}) LabelRefusal} (Ok tt) (told o tt) → o ≡ None
+  unhindered None e = refl
+  unhindered (Some r) e = let z : ◌≡◌ {A = ℕ} 0 1 = cc e in absurd (omega arith)
+
+  pub admitted : ◌≡◌ {A = Result (Unit {0}) LabelRefusal} (Ok tt) (told (refusal a rows) tt) → Admitted
+  admitted ok =
+      let f = passes _ _ _ _ _ (unhindered (refusal a rows) ok) in
       record { ticks = ltb-false 64 a.inst.horizon f.0; few = ltb-false 65535 rows f.1; known = leb-false (cart_count a.inst) a.cart f.2; inside = leb-false (place_count a) (goal_of a.inst a.cart) f.4 }
 
   pub walk_unhindered : (long : ℕ) → long ≡ suc a.inst.horizon → hindrance a rows ≡ None → walk_hindrance a rows long ≡ None
@@ -64,28 +71,27 @@ module _ {X : Type 0} where
   nth-map f (x ∷ xs) zero = refl
   nth-map f (x ∷ xs) (suc n) = nth-map f xs n
 
-  all_nth : (P : X → Type 0) (xs : List X) (n : ℕ) (x : X) → AllByRecursion P xs → Some x ≡ slice_get xs n → P x
+  pub all_nth : (P : X → Type 0) (xs : List X) (n : ℕ) (x : X) → AllByRecursion P xs → Some x ≡ slice_get xs n → P x
   all_nth P [] n x h e = let z : ◌≡◌ {A = ℕ} 0 1 = cc e in absurd (omega arith)
   all_nth P (y ∷ ys) zero x h e = let same : y ≡ x = cc e in subst P same h.0
   all_nth P (y ∷ ys) (suc n) x h e = all_nth P ys n x h.1 e
 
 module _ {C : Type 0} (a : Asked C) (l : Landing) (at : LandingOf a l) (rows : List (LabelRow C)) (starts : List ℕ) (end : ℕ) (s : Solved a rows starts end) where
-  pub solved_lands : place_count a ≤ 128 → length starts ≡ 8321 → Lands rows starts l end
+  pub solved_lands : place_count a ≤ 128 → length starts ≡ 8321 → Lands (take end rows) starts l
   solved_lands places long = lands a l at rows starts end s.held s.inside s.few s.ticks places long
 
   -- the offers found are the cart's
   pub solved_offers : front_of a.inst.kind (landed starts l (shown (take end rows))) ≡ offers_of a
   solved_offers = ap (front_of a.inst.kind) (sym (landed_is a l at rows starts end s.held s.inside))
 
-  pub solved_few : Laws a.inst.kind → length (offers_of a) ≤ 65535
-  solved_few laws = omega (arith, offers_few a laws, s.count, s.held.within, s.few)
+pub solved_few : {C : Type 0} (a : Asked C) (rows : List (LabelRow C)) (starts : List ℕ) (end : ℕ) → Solved a rows starts end → Laws a.inst.kind → length (offers_of a) ≤ 65535
+solved_few a rows starts end s laws = omega (arith, offers_few a laws, s.count, s.held.within, s.few)
 
-  -- the label of an offer is as long as its arrival says
-  pub offer_long : (ls : List (Label C)) (o : Offer C) (n : ℕ) → o.tick ≤ l.horizon → Some (shown_offer l ls o) ≡ slice_get (offers_of a) n → length (trace_at ls o.label) ≡ o.tick + 1
-  offer_long ls o n timely found =
-      let served = all_nth _ (offers_of a) n (shown_offer l ls o) (offers_served a.inst a.cart a.constraints) found in
-      let stands = replicate (l.horizon - o.tick) l.goal in
-      omega (arith, served.1.long, at.horizon, length-append stands (trace_at ls o.label), length-replicate (l.horizon - o.tick) l.goal)
+-- each offer has a place for each tick
+pub offers_long : {C : Type 0} (a : Asked C) (x : Arrivals C) → ArrivalsOf a x → (n : ℕ) → n ≡ a.inst.horizon + 1 → AllByRecursion (λ (o : Label C). length o.item ≡ n) (front_of a.inst.kind (arrived x))
+offers_long {C} a x of n e =
+    subst (AllByRecursion (λ (o : Label C). length o.item ≡ n)) (sym of.offers)
+    (All-weaker (λ o. (w : Walk a.inst a.cart) × Serves a.inst a.constraints o w) (λ (o : Label C). length o.item ≡ n) (λ o s. omega (arith, s.1.long, e)) (offers_of a) (offers_served a.inst a.cart a.constraints))
 
 -- what the answers promise of a sound instance
 module _ {C : Type 0} (a : Asked C) (laws : Laws a.inst.kind) (bounds : FloorBounds a.inst.moves) (known : a.cart < cart_count a.inst) (inside : Inside a.inst) where

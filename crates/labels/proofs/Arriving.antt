@@ -14,11 +14,11 @@ use Rattle.labels.specs.declared.landing.Landing.{Landing}
 use Rattle.labels.specs.declared.row.LabelRow.{LabelRow}
 use Rattle.labels.specs.Arrivals.{StandsFrom, LandingOf}
 use Rattle.labels.specs.Landings.{Lands, cell_of, run_of, standing, landed}
-use Rattle.labels.specs.Parts.{Part}
+use Rattle.charts.specs.Parts.{Part}
 use Rattle.labels.specs.Queries.{Asked, row_of, place_count, may_be_at, label_total, offers_of}
 use Rattle.labels.specs.Rows.{shown}
 use Rattle.labels.specs.Tables.{Hold, all_cells, cells_before}
-use Rattle.labels.proofs.Parts.{total_append}
+use Rattle.charts.proofs.Parts.{total_append}
 use Rattle.labels.proofs.Showing.{length-shown}
 use Rattle.labels.proofs.Tabling.{length_cells, table_room, tick_run}
 
@@ -80,16 +80,15 @@ module _ {C : Type 0} (a : Asked C) (l : Landing) (at : LandingOf a l) (rows : L
       let goal = goal_of a.inst a.cart in
       subst (λ p. Part starts labels (t * l.places + p) (get_or (row_of a t) goal [])) (sym at.goal) (tick_run a t goal (t * l.places) rows starts end le inside (base_of t) held)
 
-  pub lands : length rows ≤ 65535 → a.inst.horizon ≤ 64 → place_count a ≤ 128 → length starts ≡ 8321 → Lands rows starts l end
+  pub lands : length rows ≤ 65535 → a.inst.horizon ≤ 64 → place_count a ≤ 128 → length starts ≡ 8321 → Lands (take end rows) starts l
   lands few ticks places long =
       let in_time = λ (t : ℕ) (le : t ≤ l.horizon). subst (λ h. t ≤ h) at.horizon le in
       record {
-        few = few;
-        within = held.within;
+        few = omega (arith, few, length-take-le end rows held.within, held.within);
         ticks = omega (arith, at.horizon);
         table = λ t le. omega (arith, table_room a t (t * l.places) (omega (arith, in_time t le)) places (base_of t), at.goal, long);
         up = λ t le. (run_part t (in_time t le)).up;
-        held = λ t le. omega (arith, (run_part t (in_time t le)).within, length-shown (take end rows), length-take-le end rows held.within);
+        within = λ t le. omega (arith, (run_part t (in_time t le)).within, length-shown (take end rows));
       }
 
   abbrev arrived : ℕ → List (Label C)

@@ -1,9 +1,6 @@
 pub mod Picking
 pub mod Showing
 pub mod Seeking
-pub mod Parts
-pub mod Indexing
-pub mod Chaining
 pub mod Moving
 pub mod Filling
 pub mod Tabling

@@ -1,17 +1,17 @@
 -- Selecting among the candidates of a cell, move by move.
 -- Assumes nothing.
-use Rattle.std.proofs.Common.{◌≡◌, ℕ, ◌+◌, ◌<◌, ◌≤◌, Bool, eqb, List, [], ◌∷◌, ◌++◌, map, length, get_or, take, drop, Option, sym, refl, ap, ◌∙◌, inl, inr, arith}
+use Rattle.std.proofs.Common.{◌≡◌, ℕ, ◌+◌, ◌<◌, ◌≤◌, Bool, eqb, List, [], ◌∷◌, ◌++◌, map, length, get_or, drop, Option, sym, refl, ap, ◌∙◌, inl, inr}
 use Rattle.std.specs.List.{range_with_len}
-use Rattle.std.proofs.lemmas.List.{append_assoc, at_drop_more, at_drop_all, get_or-take, length-take-le}
+use Rattle.std.proofs.lemmas.List.{append_assoc, at_drop_more, at_drop_all}
 use Rattle.std.proofs.lemmas.Bool.{cases_Bool, eqb-true}
 use Rattle.rules.specs.Kinds.{Kind}
 use Rattle.rules.specs.Fronts.{Entry}
 use Rattle.rules.specs.Instances.{Move, moves_of}
 use Rattle.rules.specs.Offers.{Label, by_moves, joined_lists}
 use Rattle.labels.specs.declared.cell.Cell.{Cell}
-use Rattle.labels.specs.declared.inbound.Inbound.{Inbound}
+use Rattle.charts.specs.declared.inbound.Inbound.{Inbound}
 use Rattle.labels.specs.Cells.{by_one}
-use Rattle.labels.specs.Indexes.{into, inbound_of}
+use Rattle.charts.specs.Indexes.{into, inbound_of}
 use Rattle.labels.specs.Picks.{picked, better}
 use Rattle.labels.specs.Queries.{Asked, row_of, place_count, reaching}
 
@@ -50,12 +50,11 @@ module _ {C : Type 0} (a : Asked C) (cell : Cell) where
   pub reaching_is : reaching a cell.tick cell.place ≡ by_all (inbound_of a.inst.moves cell.place)
   reaching_is = all_places (range_with_len 0 (place_count a))
 
-  module _ (skip : C → Bool) (o : Option (Label C)) (ms : List Inbound) (hi e : ℕ) (le : hi ≤ length ms) where
-    pub moves_at : (m : Inbound) → e < hi → picked a.inst.kind skip o (by_all (drop e (take hi ms))) ≡ picked a.inst.kind skip (picked a.inst.kind skip o (by_one a cell (get_or ms e m))) (by_all (drop (e + 1) (take hi ms)))
+  module _ (skip : C → Bool) (o : Option (Label C)) (ms : List Inbound) (n : ℕ) where
+    pub moves_at : (m : Inbound) → n < length ms → picked a.inst.kind skip o (by_all (drop n ms)) ≡ picked a.inst.kind skip (picked a.inst.kind skip o (by_one a cell (get_or ms n m))) (by_all (drop (n + 1) ms))
     moves_at m lt =
-        at_drop_more (λ l. picked a.inst.kind skip o (by_all l)) (take hi ms) e m (omega (arith, length-take-le hi ms le))
-        ∙ ap (λ x. picked a.inst.kind skip o (by_one a cell x ++ by_all (drop (e + 1) (take hi ms)))) (get_or-take hi ms e m lt)
-        ∙ picked-append a.inst.kind skip o (by_one a cell (get_or ms e m)) (by_all (drop (e + 1) (take hi ms)))
+        at_drop_more (λ l. picked a.inst.kind skip o (by_all l)) ms n m lt
+        ∙ picked-append a.inst.kind skip o (by_one a cell (get_or ms n m)) (by_all (drop (n + 1) ms))
 
-    pub moves_end : hi ≤ e → picked a.inst.kind skip o (by_all (drop e (take hi ms))) ≡ o
-    moves_end over = at_drop_all (λ l. picked a.inst.kind skip o (by_all l)) (take hi ms) e (omega (arith, length-take-le hi ms le))
+    pub moves_end : length ms ≤ n → picked a.inst.kind skip o (by_all (drop n ms)) ≡ o
+    moves_end over = at_drop_all (λ l. picked a.inst.kind skip o (by_all l)) ms n over

@@ -1,7 +1,8 @@
 -- Picking one after another gives the front: what `front_of` keeps, and what is picked after the first of it.
 -- Assumes nothing.
-use Rattle.std.proofs.Common.{◌≡◌, ℕ, ◌+◌, ◌<◌, Bool, true, false, not, ◌&&◌, ◌⊎◌, List, [], ◌∷◌, ◌++◌, length, get_or, take, drop, Some, None, Option, sym, refl, ap, ◌∙◌, subst, inl, inr}
-use Rattle.std.specs.List.{AllByRecursion, slice_get}
+use Rattle.std.proofs.Common.{◌≡◌, ℕ, ◌+◌, ◌<◌, Bool, true, false, cond, not, ◌&&◌, ◌⊎◌, List, [], ◌∷◌, ◌++◌, length, get_or, take, drop, Some, None, Option, sym, refl, ap, ◌∙◌, subst, inl, inr, arith}
+use Rattle.std.specs.List.{AllByRecursion, filter, slice_get}
+use Rattle.std.specs.Option.{MatchOption}
 use Rattle.std.proofs.lemmas.List.{append-nil, append_assoc, take-append-drop, drop_more, take_all}
 use Rattle.std.proofs.lemmas.Option.{slice_get-get_or, slice_get_past}
 use Rattle.std.proofs.lemmas.Bool.{cases_Bool, cases_lt, both_ways, or_parts, or_from, or_right, not-false, and_from}
@@ -31,6 +32,11 @@ module _ {C : Type 0} (k : Kind C) (laws : Laws k) where
     | inr (inl e) ↦ inr e
     | inr (inr e) ↦ inr (laws.at_most_before a b (h, λ s. laws.before_irrefl b (subst (λ x. Before k b x) s e)))
   ]
+
+  -- what comes after a cost that comes after the last one does so too
+  comes_later : (last : Option C) (b c : C) → comes_after k last b ≡ true → Before k b c → comes_after k last c ≡ true
+  comes_later None b c h l = refl
+  comes_later (Some a) b c h l = laws.before_trans a b c h l
 
 module _ {C B : Type 0} (k : Kind C) where
   pub last_push : (o : Option C) (es : List (Entry C B)) (b : Entry C B) → last_cost k o (es ++ b ∷ []) ≡ Some b.cost
@@ -165,33 +171,20 @@ module _ {C B : Type 0} (k : Kind C) (laws : Laws k) where
   all_back P [] rs h = h
   all_back P (e ∷ es) rs h = all_back P es rs h.1
 
-  all_part : (P : Entry C B → Type 0) (es rs : List (Entry C B)) → AllByRecursion P (es ++ rs) → AllByRecursion P es
-  all_part P [] rs h = tt
-  all_part P (e ∷ es) rs h = (h.0, all_part P es rs h.1)
-
   ranked_free : (es : List (Entry C B)) (f : Entry C B) (rs : List (Entry C B)) → Ranked k (es ++ f ∷ rs) → covered k es f.cost ≡ false
   ranked_free [] f rs h = refl
   ranked_free (e ∷ es) f rs h = or_from _ _ (all_back _ es (f ∷ rs) h.0).0.1 (ranked_free es f rs h.1)
-
-  ranked_part : (es rs : List (Entry C B)) → Ranked k (es ++ rs) → Ranked k es
-  ranked_part [] rs h = tt
-  ranked_part (e ∷ es) rs h = (all_part _ es rs h.0, ranked_part es rs h.1)
 
   -- the last of some of a front comes before the next
   last_before : (o : Option C) (es : List (Entry C B)) (f : Entry C B) (rs : List (Entry C B)) → comes_after k o f.cost ≡ true → Ranked k (es ++ f ∷ rs) → comes_after k (last_cost k o es) f.cost ≡ true
   last_before o [] f rs h r = h
   last_before o (e ∷ es) f rs h r = last_before (Some e.cost) es f rs (all_back _ es (f ∷ rs) r.0).0.0 r.1
 
-  -- what comes after the last of a front is none of it
-  not_behind : (b c : C) (es : List (Entry C B)) → (b ≡ c) ⊎ Before k c b → AllByRecursion (λ e. Before k c e.cost × (k.at_most c e.cost ≡ false)) es → comes_after k (last_cost k (Some b) es) c ≡ false
-  not_behind b c [] (inl e) h = rw e (not_self k laws c)
-  not_behind b c [] (inr l) h = not_back k laws c b l
-  not_behind b c (e ∷ es) o h = not_behind e.cost c es (inr h.0.0) h.1
-
-  not_taken : (o : Option C) (es : List (Entry C B)) (c : C) → Ranked k es → comes_after k (last_cost k o es) c ≡ true → Any (λ e. e.cost ≡ c) es → ⊥
-  not_taken o [] c r h m = m
-  not_taken o (e ∷ es) c r h (inl s) = both_ways _ (not_behind e.cost e.cost es (inl refl) r.0) (subst (λ z. comes_after k (last_cost k (Some e.cost) es) z ≡ true) (sym s) h)
-  not_taken o (e ∷ es) c r h (inr m) = not_taken (Some e.cost) es c r.1 h m
+  -- what comes after a cost is none of what does not
+  not_before : (last : Option C) (es : List (Entry C B)) (c : C) → AllByRecursion (λ e. comes_after k last e.cost ≡ false) es → comes_after k last c ≡ true → Any (λ e. e.cost ≡ c) es → ⊥
+  not_before last [] c h y m = m
+  not_before last (e ∷ es) c h y (inl s) = both_ways _ h.0 (subst (λ z. comes_after k last z ≡ true) (sym s) y)
+  not_before last (e ∷ es) c h y (inr m) = not_before last es c h.1 y m
 
   -- a cost that nothing dominates, and that some entry is at most, is that entry's
   not_dominator : (xs : List (Entry C B)) (e : Entry C B) (c : C) → FirstIn k xs e → dominated k xs c ≡ false → AtMost k e.cost c → e.cost ≡ c
@@ -262,34 +255,33 @@ module _ {C B : Type 0} (k : Kind C) (laws : Laws k) where
           | inr no_le ↦ rw no_le
         ]) (next_undominated ys h.1)
 
-    -- after some of a front, the next is the first in order after the last of them that nothing dominates
-    picks_in_turn : picked k (out_of_turn k (last_cost k None es) xs) None xs ≡ Some f
-    picks_in_turn =
-        let last = last_cost k None es in
-        let free : out_of_turn k (last_cost k None es) xs f.cost ≡ false = rw (in_turn, next_undominated xs whole.covers) in
+    -- what comes after a cost begins with the first in order of what comes after it and nothing dominates
+    picks_in_turn : (last : Option C) → AllByRecursion (λ e. comes_after k last e.cost ≡ false) es → comes_after k last f.cost ≡ true → picked k (out_of_turn k last xs) None xs ≡ Some f
+    picks_in_turn last before after =
+        let free : out_of_turn k last xs f.cost ≡ false = rw (after, next_undominated xs whole.covers) in
         picked_is k laws (out_of_turn k last xs) f None xs free tt first_next
         (All-weaker (λ x. Covered k (es ++ f ∷ rs) x.cost) (Late k laws (out_of_turn k last xs) f) (λ x c. elim (cases_Bool (out_of_turn k last xs x.cost)) [
           | inl skipped ↦ inl skipped
           | inr due ↦ inr (due_late x (or_parts _ _ due) c)
         ]) xs whole.covers)
       where
-        due_late : (x : Entry C B) → (not (comes_after k (last_cost k None es) x.cost) ≡ false) × (dominated k xs x.cost ≡ false) → Covered k (es ++ f ∷ rs) x.cost → (x.cost ≡ f.cost) ⊎ Before k f.cost x.cost
+        due_late : (x : Entry C B) → (not (comes_after k last x.cost) ≡ false) × (dominated k xs x.cost ≡ false) → Covered k (es ++ f ∷ rs) x.cost → (x.cost ≡ f.cost) ⊎ Before k f.cost x.cost
         due_late x due c = elim (any_parts _ es (f ∷ rs) (due_equal xs (es ++ f ∷ rs) x.cost whole.first due.1 c)) [
-          | inl m ↦ absurd (not_taken None es x.cost (ranked_part es (f ∷ rs) ranked) (not-false _ due.0) m)
+          | inl m ↦ absurd (not_before last es x.cost before (not-false _ due.0) m)
           | inr (inl e) ↦ inl (sym e)
           | inr (inr m) ↦ inr (after_rest f rs x.cost (ranked_back es (f ∷ rs) ranked).0 m)
         ]
 
-  all_out : (xs : List (Entry C B)) (ys : List (Entry C B)) → AllByRecursion (λ y. Covered k (front_of k xs) y.cost) ys → AllByRecursion (λ y. out_of_turn k (last_cost k None (front_of k xs)) xs y.cost ≡ true) ys
-  all_out xs [] h = tt
-  all_out xs (y ∷ ys) h = (
-    elim (cases_Bool (out_of_turn k (last_cost k None (front_of k xs)) xs y.cost)) [
+  all_out : (last : Option C) (xs : List (Entry C B)) → AllByRecursion (λ e. comes_after k last e.cost ≡ false) (front_of k xs) → (ys : List (Entry C B)) → AllByRecursion (λ y. Covered k (front_of k xs) y.cost) ys → AllByRecursion (λ y. out_of_turn k last xs y.cost ≡ true) ys
+  all_out last xs before [] h = tt
+  all_out last xs before (y ∷ ys) h = (
+    elim (cases_Bool (out_of_turn k last xs y.cost)) [
       | inl e ↦ e
       | inr due ↦
           let parts = or_parts _ _ due in
-          absurd (not_taken None (front_of k xs) y.cost (ranked_front k laws xs) (not-false _ parts.0) (due_equal xs (front_of k xs) y.cost (front_kept k laws xs).first parts.1 h.0))
+          absurd (not_before last (front_of k xs) y.cost before (not-false _ parts.0) (due_equal xs (front_of k xs) y.cost (front_kept k laws xs).first parts.1 h.0))
     ],
-    all_out xs ys h.1,
+    all_out last xs before ys h.1,
   )
 
   module _ (xs : List (Entry C B)) (j : ℕ) where
@@ -306,12 +298,57 @@ module _ {C B : Type 0} (k : Kind C) (laws : Laws k) where
           ∙ sym (slice_get_past (front_of k xs) j ge)
     ]
 
-    -- the same, where what is passed over is not after the last of them, or dominated
-    pub picks_after : Entry C B → picked k (out_of_turn k (last_cost k None (take j (front_of k xs))) xs) None xs ≡ slice_get (front_of k xs) j
-    picks_after d = elim (cases_lt j (length (front_of k xs))) [
-      | inl lt ↦ picks_in_turn xs (take j (front_of k xs)) (get_or (front_of k xs) j d) (drop (j + 1) (front_of k xs)) (front_split d lt) ∙ sym (slice_get-get_or (front_of k xs) j d lt)
-      | inr ge ↦
-          picked_none k laws (out_of_turn k (last_cost k None (take j (front_of k xs))) xs) xs
-          (rw (take_all j (front_of k xs) ge) (all_out xs xs (front_kept k laws xs).covers))
-          ∙ sym (slice_get_past (front_of k xs) j ge)
+  -- f may follow e in a front
+  abbrev Ahead : Entry C B → Entry C B → Type 0
+  Ahead e f = Before k e.cost f.cost × (k.at_most e.cost f.cost ≡ false)
+
+  -- of a front, what comes after a cost stands behind the rest
+  module _ (last : Option C) where
+    abbrev after : List (Entry C B) → List (Entry C B)
+    after es = filter (λ e. comes_after k last e.cost) es
+
+    all_after : (es : List (Entry C B)) → AllByRecursion (λ e. comes_after k last e.cost ≡ true) es → after es ≡ es
+    all_after [] h = refl
+    all_after (e ∷ es) h = rw h.0 (ap (λ l. e ∷ l) (all_after es h.1))
+
+    split : (fs : List (Entry C B)) → Ranked k fs → (es : List (Entry C B)) × AllByRecursion (λ e. comes_after k last e.cost ≡ false) es × (fs ≡ es ++ after fs)
+    split [] r = ([], tt, refl)
+    split (f ∷ fs) r = elim (cases_Bool (comes_after k last f.cost)) [
+      | inl y ↦ ([], tt, rw y (ap (λ l. f ∷ l) (sym (all_after fs (All-weaker (Ahead f) (λ e. comes_after k last e.cost ≡ true) (λ e l. comes_later k laws last f.cost e.cost y l.0) fs r.0)))))
+      | inr n ↦ let (es, h, e) = split fs r.1 in (f ∷ es, (n, h), rw n (ap (λ l. f ∷ l) e))
     ]
+
+    none_after : (fs : List (Entry C B)) → after fs ≡ [] → AllByRecursion (λ e. comes_after k last e.cost ≡ false) fs
+    none_after [] h = tt
+    none_after (f ∷ fs) h = elim (cases_Bool (comes_after k last f.cost)) [
+      | inl y ↦ let z : ◌≡◌ {A = ℕ} 0 1 = cc (ap (λ b. cond b (f ∷ after fs) (after fs)) (sym y) ∙ h) in absurd (omega arith)
+      | inr n ↦ (n, none_after fs (ap (λ b. cond b (f ∷ after fs) (after fs)) (sym n) ∙ h))
+    ]
+
+    first_after : (fs rs : List (Entry C B)) (f : Entry C B) → after fs ≡ f ∷ rs → comes_after k last f.cost ≡ true
+    first_after [] rs f h = let z : ◌≡◌ {A = ℕ} 0 1 = cc h in absurd (omega arith)
+    first_after (e ∷ es) rs f h = elim (cases_Bool (comes_after k last e.cost)) [
+      | inl y ↦ let same : e ≡ f = cc (ap (λ b. cond b (e ∷ after es) (after es)) (sym y) ∙ h) in subst (λ x. comes_after k last x.cost ≡ true) same y
+      | inr n ↦ first_after es rs f (ap (λ b. cond b (e ∷ after es) (after es)) (sym n) ∙ h)
+    ]
+
+  -- after a member of a front comes the rest of it
+  after_member : (es : List (Entry C B)) (f : Entry C B) (rs : List (Entry C B)) → Ranked k (es ++ f ∷ rs) → after (Some f.cost) (es ++ f ∷ rs) ≡ rs
+  after_member [] f rs r = rw (not_self k laws f.cost) (all_after (Some f.cost) rs (All-weaker (Ahead f) (λ e. k.before f.cost e.cost ≡ true) (λ e l. l.0) rs r.0))
+  after_member (e ∷ es) f rs r = rw (not_back k laws e.cost f.cost (all_back (Ahead e) es (f ∷ rs) r.0).0.0) (after_member es f rs r.1)
+
+  -- what is picked among what comes after a cost and nothing dominates is the next of the front, if there is any
+  module _ (last : Option C) (xs : List (Entry C B)) where
+    next_after : (ls : List (Entry C B)) (r : Option (Entry C B)) → after last (front_of k xs) ≡ ls → r ≡ picked k (out_of_turn k last xs) None xs → MatchOption r (after last (front_of k xs) ≡ []) (λ f. after last (front_of k xs) ≡ f ∷ after (Some f.cost) (front_of k xs))
+    next_after [] None e h = e
+    next_after [] (Some f) e h =
+        let z : ◌≡◌ {A = ℕ} 0 1 = cc (h ∙ picked_none k laws (out_of_turn k last xs) xs (all_out last xs (none_after last (front_of k xs) e) xs (front_kept k laws xs).covers)) in absurd (omega arith)
+    next_after (f ∷ rs) r e h =
+        let (es, before, is) = split last (front_of k xs) (ranked_front k laws xs) in
+        let parts : front_of k xs ≡ es ++ f ∷ rs = is ∙ ap (λ l. es ++ l) e in
+        let here : r ≡ Some f = h ∙ picks_in_turn xs es f rs parts last before (first_after last (front_of k xs) rs f e) in
+        let rest : after (Some f.cost) (front_of k xs) ≡ rs = ap (after (Some f.cost)) parts ∙ after_member es f rs (subst (Ranked k) parts (ranked_front k laws xs)) in
+        subst (λ o. MatchOption o (after last (front_of k xs) ≡ []) (λ g. after last (front_of k xs) ≡ g ∷ after (Some g.cost) (front_of k xs))) (sym here) (e ∙ ap (λ l. f ∷ l) (sym rest))
+
+    pub picks_after : (r : Option (Entry C B)) → r ≡ picked k (out_of_turn k last xs) None xs → MatchOption r (filter (λ e. comes_after k last e.cost) (front_of k xs) ≡ []) (λ f. filter (λ e. comes_after k last e.cost) (front_of k xs) ≡ f ∷ filter (λ e. comes_after k (Some f.cost) e.cost) (front_of k xs))
+    picks_after r h = next_after (after last (front_of k xs)) r refl h

@@ -1,20 +1,15 @@
--- A look among constraints, one step on; and what is not there at all.
+-- A look among constraints; and what is not there at all.
 -- Assumes nothing.
-use Rattle.std.proofs.Common.{◌≡◌, ℕ, ◌+◌, ◌<◌, ◌≤◌, Bool, true, false, ◌&&◌, ◌||◌, eqb, List, [], ◌∷◌, map, length, get_or, drop, sym, refl, ap, ◌∙◌, inl, inr}
-use Rattle.std.proofs.lemmas.List.{at_drop_more, at_drop_all}
+use Rattle.std.proofs.Common.{◌≡◌, ℕ, Bool, true, false, ◌&&◌, ◌||◌, eqb, List, [], ◌∷◌, map, refl, ap, inl, inr}
+use Rattle.std.specs.List.{list_any}
 use Rattle.std.proofs.lemmas.Bool.{cases_Bool, both_ways, and_parts, and_from, or_parts, or_from}
 use Rattle.rules.specs.Walks.{Constraint, vertex, edge, any_of, forbids_place, forbids_move}
 use Rattle.labels.specs.Seeking.{names, leads_to}
 
-module _ {B : Type 0} (f : Constraint → Bool) (rule : B → Constraint) (bs : List B) (i : ℕ) (all : Bool) where
-  pub found : (b : B) → i < length bs → true ≡ f (rule (get_or bs i b)) → any_of f (map rule (drop i bs)) ≡ all → true ≡ all
-  found b lt h e = ap (λ x. x || any_of f (map rule (drop (i + 1) bs))) h ∙ sym (at_drop_more (λ l. any_of f (map rule l)) bs i b lt) ∙ e
-
-  pub passed : (b : B) → i < length bs → false ≡ f (rule (get_or bs i b)) → any_of f (map rule (drop i bs)) ≡ all → any_of f (map rule (drop (i + 1) bs)) ≡ all
-  passed b lt h e = ap (λ x. x || any_of f (map rule (drop (i + 1) bs))) h ∙ sym (at_drop_more (λ l. any_of f (map rule l)) bs i b lt) ∙ e
-
-  pub ended : length bs ≤ i → any_of f (map rule (drop i bs)) ≡ all → false ≡ all
-  ended le e = sym (at_drop_all (λ l. any_of f (map rule l)) bs i le) ∙ e
+-- a test of what the constraints mean
+pub any_meant : {B : Type 0} (f : Constraint → Bool) (rule : B → Constraint) (bs : List B) → list_any (λ b. f (rule b)) bs ≡ any_of f (map rule bs)
+any_meant f rule [] = refl
+any_meant f rule (b ∷ bs) = ap (λ x. f (rule b) || x) (any_meant f rule bs)
 
 -- where one test passes nothing, a narrower one does not either
 pub none_of : (f h : Constraint → Bool) → ((b : Constraint) → f b ≡ true → h b ≡ true) → (bs : List Constraint) → any_of h bs ≡ false → any_of f bs ≡ false

@@ -1,14 +1,16 @@
 -- What rows show, one row more, and a part of them.
 -- Assumes nothing.
-use Rattle.std.proofs.Common.{◌≡◌, ℕ, ◌+◌, ◌-◌, ◌<◌, ◌≤◌, Bool, true, false, cond, not, ◌&&◌, ◌||◌, List, [], ◌∷◌, ◌++◌, map, length, get_or, take, drop, Some, None, Option, sym, refl, ap, ◌∙◌, inl, inr, arith}
+use Rattle.std.proofs.Common.{◌≡◌, ℕ, suc, ◌+◌, ◌-◌, ◌<◌, ◌≤◌, Bool, cond, not, ◌&&◌, ◌||◌, List, [], ◌∷◌, ◌++◌, map, length, get_or, take, drop, Some, None, Option, sym, refl, ap, ◌∙◌, inl, inr, arith}
+use Rattle.std.specs.Option.{option_map, option_or}
+use Rattle.std.specs.List.{list_any, slice_get}
 use Rattle.std.proofs.lemmas.Bool.{cases_Bool}
-use Rattle.std.proofs.lemmas.List.{append-nil, append_assoc, length_push, length-take-le, take_more, drop-append-le, get_or-take, get_or-map, map_push, at_drop_more, at_drop_all}
+use Rattle.std.proofs.lemmas.Option.{slice_get-get_or}
+use Rattle.std.proofs.lemmas.List.{append-nil, append_assoc, length_push, length-take-le, get_or-take, get_or-map, map_push, drop-map, at_drop_more, at_drop_all}
 use Rattle.rules.specs.Kinds.{Kind}
 use Rattle.rules.specs.Fronts.{covered}
 use Rattle.rules.specs.Offers.{Label}
 use Rattle.labels.specs.declared.row.LabelRow.{LabelRow}
 use Rattle.labels.specs.Picks.{better, picked, last_cost}
-use Rattle.labels.proofs.Picking.{last_push}
 use Rattle.labels.specs.Rows.{shown_row, shown_from, shown, shown_best, extended_by, leads}
 
 module _ {C : Type 0} where
@@ -43,74 +45,76 @@ module _ {C : Type 0} where
   costs_shown rs = costs_from [] rs
 
   -- the cost of the label at i is the row's
+  pub cost-here : (rs : List (LabelRow C)) (i : ℕ) (r : LabelRow C) (d : Label C) → i < length rs → (get_or (shown rs) i d).cost ≡ (get_or rs i r).cost
+  cost-here rs i r d lt =
+      let in_labels : i < length (shown rs) = omega (arith, length-shown rs) in
+      sym (get_or-map (λ l. l.cost) (shown rs) i d r.cost in_labels) ∙ ap (λ l. get_or l i r.cost) (costs_shown rs) ∙ get_or-map (λ x. x.cost) rs i r r.cost lt
+
   pub cost-at : (rs : List (LabelRow C)) (n i : ℕ) (r : LabelRow C) (d : Label C) → i < n → n ≤ length rs → (get_or (shown (take n rs)) i d).cost ≡ (get_or rs i r).cost
-  cost-at rs n i r d lt le =
-      let long : length (take n rs) ≡ n = length-take-le n rs le in
-      let in_rows : i < length (take n rs) = omega arith in
-      let in_labels : i < length (shown (take n rs)) = omega (arith, length-shown (take n rs)) in
-      sym (get_or-map (λ l. l.cost) (shown (take n rs)) i d r.cost in_labels)
-      ∙ ap (λ l. get_or l i r.cost) (costs_shown (take n rs))
-      ∙ get_or-map (λ x. x.cost) (take n rs) i r r.cost in_rows
-      ∙ ap (λ x. x.cost) (get_or-take n rs i r lt)
+  cost-at rs n i r d lt le = cost-here (take n rs) i r d (omega (arith, length-take-le n rs le)) ∙ ap (λ x. x.cost) (get_or-take n rs i r lt)
 
-  -- the label at i, as the head of what is left
-  pub covered-at : (k : Kind C) (rs : List (LabelRow C)) (n i : ℕ) (r : LabelRow C) (c : C) → i < n → n ≤ length rs → covered k (drop i (shown (take n rs))) c ≡ (k.at_most (get_or rs i r).cost c || covered k (drop (i + 1) (shown (take n rs))) c)
-  covered-at k rs n i r c lt le =
+  option_or_none : (o : Option C) → option_or o None ≡ o
+  option_or_none None = refl
+  option_or_none (Some x) = refl
+
+  -- the costs from i on are the rows'
+  costs_from_on : (rs : List (LabelRow C)) (i : ℕ) → map (λ l. l.cost) (drop i (shown rs)) ≡ map (λ r. r.cost) (drop i rs)
+  costs_from_on rs i = sym (drop-map (λ l. l.cost) i (shown rs)) ∙ ap (drop i) (costs_shown rs) ∙ drop-map (λ r. r.cost) i rs
+
+  covered_costs : (k : Kind C) (ls : List (Label C)) (rs : List (LabelRow C)) (c : C) → map (λ l. l.cost) ls ≡ map (λ r. r.cost) rs → covered k ls c ≡ list_any (λ r. k.at_most r.cost c) rs
+  covered_costs k [] [] c e = refl
+  covered_costs k [] (r ∷ rs) c e = absurd (omega (arith, ap length e))
+  covered_costs k (l ∷ ls) [] c e = absurd (omega (arith, ap length e))
+  covered_costs k (l ∷ ls) (r ∷ rs) c e =
+      let first : l.cost ≡ r.cost = cc e in
+      let rest : map (λ (x : Label C). x.cost) ls ≡ map (λ (x : LabelRow C). x.cost) rs = cc e in
+      ap (λ a. k.at_most a c || covered k ls c) first ∙ ap (λ b. k.at_most r.cost c || b) (covered_costs k ls rs c rest)
+
+  -- the labels from i on cover what their rows do
+  pub covered_shown : (k : Kind C) (rs : List (LabelRow C)) (i : ℕ) (c : C) → list_any (λ r. k.at_most r.cost c) (drop i rs) ≡ covered k (drop i (shown rs)) c
+  covered_shown k rs i c = sym (covered_costs k (drop i (shown rs)) (drop i rs) c (costs_from_on rs i))
+
+  last_of_more : (o p : Option C) (r s : LabelRow C) (rs : List (LabelRow C)) → option_or (option_map (λ r. r.cost) (slice_get (r ∷ s ∷ rs) (length (r ∷ s ∷ rs) - 1))) o ≡ option_or (option_map (λ r. r.cost) (slice_get (s ∷ rs) (length (s ∷ rs) - 1))) p
+  last_of_more o p r s rs =
+      let get = slice_get-get_or (s ∷ rs) (length rs) s (omega arith) in
+      let here : length (r ∷ s ∷ rs) - 1 ≡ suc (length rs) = omega arith in
+      let there : length (s ∷ rs) - 1 ≡ length rs = omega arith in
+      let f : LabelRow C → C = λ x. x.cost in
+      ap (λ n. option_or (option_map f (slice_get (r ∷ s ∷ rs) n)) o) here
+      ∙ ap (λ x. option_or (option_map f x) o) get
+      ∙ sym (ap (λ n. option_or (option_map f (slice_get (s ∷ rs) n)) p) there ∙ ap (λ x. option_or (option_map f x) p) get)
+
+  last_costs : (k : Kind C) (o : Option C) (ls : List (Label C)) (rs : List (LabelRow C)) → map (λ l. l.cost) ls ≡ map (λ r. r.cost) rs → option_or (option_map (λ r. r.cost) (slice_get rs (length rs - 1))) o ≡ last_cost k o ls
+  last_costs k o [] [] e = refl
+  last_costs k o [] (r ∷ rs) e = absurd (omega (arith, ap length e))
+  last_costs k o (l ∷ ls) [] e = absurd (omega (arith, ap length e))
+  last_costs k o (l ∷ []) (r ∷ []) e = let first : r.cost ≡ l.cost = cc e in ap Some first
+  last_costs k o (l ∷ []) (r ∷ s ∷ rs) e = absurd (omega (arith, ap length e))
+  last_costs k o (l ∷ m ∷ ls) (r ∷ []) e = absurd (omega (arith, ap length e))
+  last_costs k o (l ∷ m ∷ ls) (r ∷ s ∷ rs) e =
+      let rest : map (λ (x : Label C). x.cost) (m ∷ ls) ≡ map (λ (x : LabelRow C). x.cost) (s ∷ rs) = cc e in
+      last_of_more o (Some l.cost) r s rs ∙ last_costs k (Some l.cost) (m ∷ ls) (s ∷ rs) rest
+
+  -- the cost of the last label from i on is the last row's
+  pub last_shown : (k : Kind C) (rs : List (LabelRow C)) (i : ℕ) → option_map (λ r. r.cost) (slice_get (drop i rs) (length (drop i rs) - 1)) ≡ last_cost k None (drop i (shown rs))
+  last_shown k rs i = sym (option_or_none (option_map (λ (r : LabelRow C). r.cost) (slice_get (drop i rs) (length (drop i rs) - 1)))) ∙ last_costs k None (drop i (shown rs)) (drop i rs) (costs_from_on rs i)
+
+  extended-at : (k : Kind C) (rs : List (LabelRow C)) (to i : ℕ) (r : LabelRow C) (d : Label C) (price : C) (place : ℕ) → i < to → to ≤ length rs →
+      ◌≡◌ {A = Label C} (record { cost = k.join (get_or (take to (shown rs)) i d).cost price; item = place ∷ (get_or (take to (shown rs)) i d).item }) (shown_row (shown rs) (record { cost = k.join (get_or rs i r).cost price; parent = i; place = place }))
+  extended-at k rs to i r d price place lt le =
+      let within : i < length (shown rs) = omega (arith, length-shown rs) in
+      let here : i < length rs = omega arith in
+      let same = get_or-take to (shown rs) i d lt in
+      λ j. record { cost = k.join ((ap (λ l. l.cost) same ∙ cost-here rs i r d here) j) price; item = place ∷ (ap (λ l. l.item) same ∙ sym (get_or-map (λ l. l.item) (shown rs) i d [] within)) j }
+
+  pub picked-at : (k : Kind C) (rs : List (LabelRow C)) (to i : ℕ) (r : LabelRow C) (price : C) (place : ℕ) (skip : C → Bool) (o : Option (Label C)) → i < to → to ≤ length rs →
+      picked k skip o (extended_by k price place (drop i (take to (shown rs)))) ≡ picked k skip (better k skip o (shown_row (shown rs) (record { cost = k.join (get_or rs i r).cost price; parent = i; place = place }))) (extended_by k price place (drop (i + 1) (take to (shown rs))))
+  picked-at k rs to i r price place skip o lt le =
       let d : Label C = record { cost = r.cost; item = [] } in
-      let long : length (take n rs) ≡ n = length-take-le n rs le in
-      let within : i < length (shown (take n rs)) = omega (arith, length-shown (take n rs)) in
-      at_drop_more (λ l. covered k l c) (shown (take n rs)) i d within
-      ∙ ap (λ a. k.at_most a c || covered k (drop (i + 1) (shown (take n rs))) c) (cost-at rs n i r d lt le)
-
-  pub covered_yes : (k : Kind C) (rs : List (LabelRow C)) (n i : ℕ) (r : LabelRow C) (c : C) → i < n → n ≤ length rs → true ≡ k.at_most (get_or rs i r).cost c → covered k (drop i (shown (take n rs))) c ≡ true
-  covered_yes k rs n i r c lt le y = covered-at k rs n i r c lt le ∙ ap (λ b. b || covered k (drop (i + 1) (shown (take n rs))) c) (sym y)
-
-  pub covered_no : (k : Kind C) (rs : List (LabelRow C)) (n i : ℕ) (r : LabelRow C) (c : C) → i < n → n ≤ length rs → false ≡ k.at_most (get_or rs i r).cost c → covered k (drop i (shown (take n rs))) c ≡ covered k (drop (i + 1) (shown (take n rs))) c
-  covered_no k rs n i r c lt le y = covered-at k rs n i r c lt le ∙ ap (λ b. b || covered k (drop (i + 1) (shown (take n rs))) c) (sym y)
-
-  pub covered_end : (k : Kind C) (rs : List (LabelRow C)) (n i : ℕ) (c : C) → n ≤ i → n ≤ length rs → covered k (drop i (shown (take n rs))) c ≡ false
-  covered_end k rs n i c le le' =
-      let long : length (take n rs) ≡ n = length-take-le n rs le' in
-      at_drop_all (λ l. covered k l c) (shown (take n rs)) i (omega (arith, length-shown (take n rs)))
-
-  -- the cost of the last label from start on is the last row's
-  pub last_none : (k : Kind C) (rs : List (LabelRow C)) (n i : ℕ) → n ≤ i → n ≤ length rs → None ≡ last_cost k None (drop i (shown (take n rs)))
-  last_none k rs n i le le' = sym (at_drop_all (last_cost k None) (shown (take n rs)) i (omega (arith, length-shown (take n rs), length-take-le n rs le')))
-
-  last_more : (k : Kind C) (rs : List (LabelRow C)) (n i : ℕ) (r : LabelRow C) → i ≤ n → n < length rs → Some (get_or rs n r).cost ≡ last_cost k None (drop i (shown (take (n + 1) rs)))
-  last_more k rs n i r le lt =
-      let x = get_or rs n r in
-      let ls = shown (take n rs) in
-      let short : i ≤ length ls = omega (arith, length-shown (take n rs), length-take-le n rs (omega arith)) in
-      sym (ap (λ l. last_cost k None (drop i l)) (ap shown (take_more rs n r lt) ∙ shown_push (take n rs) x)
-      ∙ ap (last_cost k None) (drop-append-le i ls (shown_row ls x ∷ []) short)
-      ∙ last_push k None (drop i ls) (shown_row ls x))
-
-  pub last_some : (k : Kind C) (rs : List (LabelRow C)) (n i : ℕ) (r : LabelRow C) → i < n → n ≤ length rs → Some (get_or rs (n - 1) r).cost ≡ last_cost k None (drop i (shown (take n rs)))
-  last_some k rs n i r lt le =
-      let on : n - 1 + 1 ≡ n = omega arith in
-      last_more k rs (n - 1) i r (omega arith) (omega arith) ∙ ap (λ m. last_cost k None (drop i (shown (take m rs)))) on
-
-  extended-at : (k : Kind C) (rs : List (LabelRow C)) (n to i : ℕ) (r : LabelRow C) (d : Label C) (price : C) (place : ℕ) → i < to → to ≤ n → n ≤ length rs →
-      ◌≡◌ {A = Label C} (record { cost = k.join (get_or (take to (shown (take n rs))) i d).cost price; item = place ∷ (get_or (take to (shown (take n rs))) i d).item }) (shown_row (shown (take n rs)) (record { cost = k.join (get_or rs i r).cost price; parent = i; place = place }))
-  extended-at k rs n to i r d price place lt le le' =
-      let ls = shown (take n rs) in
-      let long : length (take n rs) ≡ n = length-take-le n rs le' in
-      let within : i < length (shown (take n rs)) = omega (arith, length-shown (take n rs)) in
-      let in_n : i < n = omega arith in
-      let same = get_or-take to ls i d lt in
-      λ j. record { cost = k.join ((ap (λ l. l.cost) same ∙ cost-at rs n i r d in_n le') j) price; item = place ∷ (ap (λ l. l.item) same ∙ sym (get_or-map (λ l. l.item) ls i d [] within)) j }
-
-  pub picked-at : (k : Kind C) (rs : List (LabelRow C)) (n to i : ℕ) (r : LabelRow C) (price : C) (place : ℕ) (skip : C → Bool) (o : Option (Label C)) → i < to → to ≤ n → n ≤ length rs →
-      picked k skip o (extended_by k price place (drop i (take to (shown (take n rs))))) ≡ picked k skip (better k skip o (shown_row (shown (take n rs)) (record { cost = k.join (get_or rs i r).cost price; parent = i; place = place }))) (extended_by k price place (drop (i + 1) (take to (shown (take n rs)))))
-  picked-at k rs n to i r price place skip o lt le le' =
-      let d : Label C = record { cost = r.cost; item = [] } in
-      let ls = shown (take n rs) in
-      let long : length (take n rs) ≡ n = length-take-le n rs le' in
-      let all : length (shown (take n rs)) ≡ n = length-shown (take n rs) ∙ long in
-      let part : length (take to (shown (take n rs))) ≡ to = length-take-le to (shown (take n rs)) (omega arith) in
+      let ls = shown rs in
+      let part : length (take to (shown rs)) ≡ to = length-take-le to (shown rs) (omega (arith, length-shown rs)) in
       at_drop_more (λ l. picked k skip o (extended_by k price place l)) (take to ls) i d (omega arith)
-      ∙ ap (λ x. picked k skip (better k skip o x) (extended_by k price place (drop (i + 1) (take to ls)))) (extended-at k rs n to i r d price place lt le le')
+      ∙ ap (λ x. picked k skip (better k skip o x) (extended_by k price place (drop (i + 1) (take to ls)))) (extended-at k rs to i r d price place lt le)
 
   pub picked_end : (k : Kind C) (ls : List (Label C)) (to i : ℕ) (price : C) (place : ℕ) (skip : C → Bool) (o : Option (Label C)) → to ≤ i → to ≤ length ls → picked k skip o (extended_by k price place (drop i (take to ls))) ≡ o
   picked_end k ls to i price place skip o le le' = at_drop_all (λ l. picked k skip o (extended_by k price place l)) (take to ls) i (omega (arith, length-take-le to ls le'))

@@ -13,12 +13,12 @@ use Rattle.rules.specs.Offers.{Label, joined_lists, total_length}
 use Rattle.labels.specs.declared.layer.Layer.{Layer}
 use Rattle.labels.specs.declared.row.LabelRow.{LabelRow}
 use Rattle.labels.specs.Cells.{Runs, Grown}
-use Rattle.labels.specs.Parts.{Part}
+use Rattle.charts.specs.Parts.{Part}
 use Rattle.labels.specs.Queries.{Asked, row_of, place_count, may_be_at, reaching, label_total}
 use Rattle.labels.specs.Rows.{shown, shown_row, trace_at}
 use Rattle.labels.specs.Seeking.{busy_at}
 use Rattle.labels.specs.Tables.{Hold, Filled, Laid, cells_before, all_cells}
-use Rattle.labels.proofs.Parts.{joined_push, total_append, length_joined, total_more, total_part, marked_none, marked_more, part_at}
+use Rattle.charts.proofs.Parts.{joined_push, total_append, length_joined, total_more, total_part, marked_none, marked_more, part_at}
 use Rattle.labels.proofs.Showing.{shown_push, length-shown}
 
 -- a cart's places, as the code reads them
@@ -166,33 +166,13 @@ module _ {C : Type 0} (a : Asked C) where
       let h' : Hold rows starts (all_cells a) n = subst (λ x. Hold rows starts (cells_before a x) n) e h in
       (hold_size rows starts (all_cells a) n h' ∙ label_total_is, h')
 
-  base_none : 0 ≡ length (cells_before a 0)
-  unfolding cells_before
-  base_none = refl
-
   pub hold_start : (rows : List (LabelRow C)) (starts : List ℕ) → get_or starts 0 0 ≡ 0 → Hold rows starts (cells_before a 0) 0
   unfolding cells_before
   hold_start rows starts e = hold_none rows starts e
 
-  base_more : (t base n : ℕ) → n ≡ place_count a → base ≡ length (cells_before a t) → base + n ≡ length (cells_before a (t + 1))
-  base_more t base n e b = let on : suc t ≡ t + 1 = omega arith in omega (arith, length_cells_on t, ap (λ x. length (cells_before a x)) on)
-
-  -- the first layer, and the next
-  pub laid_first : (layer : Layer) → layer.tick ≡ 0 → layer.base ≡ 0 → layer.busy ≡ busy_at a 0 → Laid a layer
-  laid_first layer t b busy = record {
-    busy = busy ∙ ap (busy_at a) (sym t);
-    was_busy = λ s e. absurd (omega arith);
-    base = b ∙ base_none ∙ ap (λ x. length (cells_before a x)) (sym t);
-    before = λ s e. absurd (omega arith);
-  }
-
-  pub laid_next : (was layer : Layer) (n : ℕ) → n ≡ place_count a → Laid a was → layer.tick ≡ was.tick + 1 → layer.base ≡ was.base + n → layer.before ≡ was.base → layer.busy ≡ busy_at a layer.tick → layer.was_busy ≡ was.busy → Laid a layer
-  laid_next was layer n e h t b before busy was_busy = record {
-    busy = busy;
-    was_busy = λ s on. let same : was.tick ≡ s = omega arith in was_busy ∙ h.busy ∙ ap (busy_at a) same;
-    base = b ∙ base_more was.tick was.base n e h.base ∙ ap (λ x. length (cells_before a x)) (sym t);
-    before = λ s on. let same : was.tick ≡ s = omega arith in before ∙ h.base ∙ ap (λ x. length (cells_before a x)) same;
-  }
+  -- the layer of a tick
+  pub laid : (layer : Layer) (n : ℕ) → n ≡ place_count a → layer.base ≡ layer.tick * n → layer.busy ≡ busy_at a layer.tick → Laid a layer
+  laid layer n e b busy = record { busy = busy; base = b ∙ ap (λ x. layer.tick * x) e ∙ sym (length_cells layer.tick) }
 
   -- the cells of a tick, among all
   cells_split : (t h : ℕ) → t ≤ h → (more : List (List (Label C))) × (cells_before a (suc h) ≡ (cells_before a t ++ row_of a t) ++ more)

@@ -102,7 +102,7 @@ reverse_same (suc n) g =
     let on : suc n ≡ n + 1 = omega arith in
     reverse-append (g ∷ []) (replicate n g) ∙ ap (λ l. l ++ g ∷ []) (reverse_same n g) ∙ replicate_more n g ∙ ap (λ m. replicate m g) (sym on)
 
-pub walk_written : (us : List ℕ) (g h t n : ℕ) → t ≤ h → n ≡ h + 1 → reverse us ++ drop (t + 1) (replicate n g) ≡ reverse (replicate (h - t) g ++ us)
-walk_written us g h t n le e =
-    let left : n - (t + 1) ≡ h - t = omega arith in
-    ap (λ l. reverse us ++ l) (drop-replicate (t + 1) n g ∙ ap (λ m. replicate m g) left ∙ sym (reverse_same (h - t) g)) ∙ sym (reverse-append (replicate (h - t) g) us)
+pub walk_written : (us : List ℕ) (g s n : ℕ) → n ≡ s + length us → reverse us ++ drop (n - s) (replicate n g) ≡ reverse (replicate s g ++ us)
+walk_written us g s n e =
+    let left : n - (n - s) ≡ s = omega (arith, e) in
+    ap (λ l. reverse us ++ l) (drop-replicate (n - s) n g ∙ ap (λ m. replicate m g) left ∙ sym (reverse_same s g)) ∙ sym (reverse-append (replicate s g) us)

@@ -3,14 +3,17 @@
 use Rattle.std.specs.Prelude.{◌≡◌, ℕ, suc, ◌<◌, ◌≤◌, cond, List, reverse, length, Some, None, Ok, Err, Option, Result, ◌==◌, nat_le, nat_lt, slice_index}
 use Rattle.std.specs.Option.{option_or, option_map}
 use Rattle.std.specs.List.{AllByRecursion, slice_get}
-use Rattle.rules.specs.Fronts.{Front}
+use Rattle.rules.specs.Fronts.{Front, front_of}
 use Rattle.rules.specs.Instances.{Instance, places, cart_count, start_of, goal_of}
 use Rattle.rules.specs.Walks.{Walk, place_at, Permitted}
 use Rattle.rules.specs.Offers.{Label}
+use Rattle.labels.specs.declared.arrivals.Arrivals.{Arrivals}
 use Rattle.labels.specs.declared.refusal.LabelRefusal.{LabelRefusal}
 use Rattle.labels.specs.declared.refusal.LabelRefusal.TheVariants.{WrongLength, HorizonTooLong, TooManyRows, NoSuchCart, StartOffFloor, GoalOffFloor, NoRowLeft}
 use Rattle.labels.specs.declared.row.LabelRow.{LabelRow}
-use Rattle.labels.specs.Queries.{Asked, place_count, label_total}
+use Rattle.labels.specs.Arrivals.{LandingOf}
+use Rattle.labels.specs.Choices.{arrived}
+use Rattle.labels.specs.Queries.{Asked, place_count, label_total, offers_of}
 use Rattle.labels.specs.Tables.{Hold, all_cells}
 
 -- an answer, unless something hinders it
@@ -44,6 +47,11 @@ module _ {C : Type 0} (a : Asked C) where
     pub inside : goal_of a.inst a.cart < place_count a
     pub count : n ≡ label_total a
     pub held : Hold rows starts (all_cells a) n
+
+  -- the labels that arrive are the cart's
+  pub record ArrivalsOf (x : Arrivals C) : Type 0 where
+    pub at : LandingOf a x.landing
+    pub offers : front_of a.inst.kind (arrived x) ≡ offers_of a
 
   abbrev pub LaidOut : ℕ → List (LabelRow C) → List ℕ → Result ℕ LabelRefusal → Type 0
   LaidOut long rows starts (Ok n) = (hindrance long ≡ None) × Solved rows starts n

@@ -5,9 +5,9 @@ use Rattle.rules.specs.Kinds.{Kind}
 use Rattle.rules.specs.Instances.{price}
 use Rattle.rules.specs.Offers.{Label}
 use Rattle.labels.specs.declared.cell.Cell.{Cell}
-use Rattle.labels.specs.declared.inbound.Inbound.{Inbound}
+use Rattle.charts.specs.declared.inbound.Inbound.{Inbound}
 use Rattle.labels.specs.declared.row.LabelRow.{LabelRow}
-use Rattle.labels.specs.Parts.{Part}
+use Rattle.charts.specs.Parts.{Part}
 use Rattle.labels.specs.Picks.{picked, passed_over}
 use Rattle.labels.specs.Queries.{Asked, row_of, place_count, may_take}
 use Rattle.labels.specs.Rows.{shown, shown_best, extended_by}
@@ -17,22 +17,19 @@ use Rattle.labels.specs.Seeking.{barred_to}
 abbrev pub Runs : {C : Type 0} → List ℕ → ℕ → List (Label C) → List (List (Label C)) → ℕ → Type 0
 Runs starts base ls row n = (u : ℕ) → u < n → Part starts ls (base + u) (slice_index_or row u [])
 
--- the best so far, once the candidates have come, where the cell's last label costs last
-abbrev pub Selects : {C : Type 0} → Kind C → List (LabelRow C) → Cell → ℕ → Option C → Option (LabelRow C) → List (Label C) → Option (LabelRow C) → Type 0
-Selects k rows cell end last best candidates r = let ls = shown (take end rows) in shown_best ls r ≡ picked k (passed_over k last (drop cell.start ls)) (shown_best ls best) candidates
+-- the best so far, once the candidates have come, where the rows so far are the cell's from start on, and its last label costs last
+abbrev pub Selects : {C : Type 0} → Kind C → List (LabelRow C) → ℕ → Option C → Option (LabelRow C) → List (Label C) → Option (LabelRow C) → Type 0
+Selects k rows start last best candidates r = let ls = shown rows in shown_best ls r ≡ picked k (passed_over k last (drop start ls)) (shown_best ls best) candidates
 
 module _ {C : Type 0} (a : Asked C) where
   -- what one move brings to the cell
   abbrev pub by_one : Cell → Inbound → List (Label C)
   by_one cell m = cond (may_take a m.from cell.place cell.tick) (extended_by a.inst.kind (price a.inst m.line) cell.place (slice_index_or (row_of a cell.tick) m.from [])) []
 
-  -- while a cell is filled, the rows hold the labels of the tick before, and the cell's own from its start up to end
-  pub record Ready (cell : Cell) (rows : List (LabelRow C)) (starts : List ℕ) (end : ℕ) : Type 0 where
-    pub from : cell.start ≤ end
-    pub within : end ≤ length rows
-    pub few : length rows ≤ 65535
+  -- while a cell is filled, the rows so far hold the labels of the tick before
+  pub record Ready (cell : Cell) (rows : List (LabelRow C)) (starts : List ℕ) : Type 0 where
     pub table : cell.base + place_count a < length starts
-    pub runs : Runs starts cell.base (shown (take end rows)) (row_of a cell.tick) (place_count a)
+    pub runs : Runs starts cell.base (shown rows) (row_of a cell.tick) (place_count a)
     pub barred : cell.barred ≡ barred_to a cell.place cell.tick
 
 -- after the first n rows stand those of the labels, unless there is no room for all of them

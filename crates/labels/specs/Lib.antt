@@ -2,10 +2,9 @@ pub mod Picks
 pub mod Rows
 pub mod Queries
 pub mod Seeking
-pub mod Parts
-pub mod Indexes
 pub mod Cells
 pub mod Tables
 pub mod Landings
+pub mod Choices
 pub mod Arrivals
 pub mod Answers

@@ -4,6 +4,10 @@ use Rattle.std.specs.Prelude.{Bool, true, false, cond, not, ◌&&◌, ◌||◌, 
 use Rattle.rules.specs.Kinds.{Kind}
 use Rattle.rules.specs.Fronts.{Entry, covered}
 
+-- a dominates b: it is at most b, and comes before it
+abbrev pub undercuts : {C : Type 0} → Kind C → C → C → Bool
+undercuts k a b = k.at_most a b && k.before a b
+
 module _ {C B : Type 0} (k : Kind C) where
   -- the first of the two in the kind's order; among equal costs the one that was there
   abbrev pub sooner : Option (Entry C B) → Entry C B → Option (Entry C B)
@@ -17,10 +21,10 @@ module _ {C B : Type 0} (k : Kind C) where
   picked skip o [] = o
   picked skip o (x ∷ xs) = picked skip (better skip o x) xs
 
-  -- some entry dominates c: it is at most c, and listed before it
+  -- some entry dominates c
   abbrev pub dominated : List (Entry C B) → C → Bool
   dominated [] c = false
-  dominated (x ∷ xs) c = (k.at_most x.cost c && k.before x.cost c) || dominated xs c
+  dominated (x ∷ xs) c = undercuts k x.cost c || dominated xs c
 
   -- the cost of the last entry, and what was there where there is none
   abbrev pub last_cost : Option C → List (Entry C B) → Option C

@@ -1,10 +1,8 @@
--- What is sought among constraints.
+-- Which constraints a cart meets at a tick.
 -- Assumes nothing.
 use Rattle.std.specs.Prelude.{ℕ, Bool, false, ◌&&◌, ◌==◌}
-use Rattle.rules.specs.Walks.{Constraint, vertex, edge, forbids_place, forbids_move, any_of}
+use Rattle.rules.specs.Walks.{Constraint, vertex, edge, any_of}
 use Rattle.labels.specs.Queries.{Asked}
-use Rattle.labels.specs.declared.sought.Sought.{Sought}
-use Rattle.labels.specs.declared.sought.Sought.TheVariants.{Tick, To, Place, Crossing}
 
 -- a constraint of the cart at the tick
 abbrev pub names : ℕ → ℕ → Constraint → Bool
@@ -15,12 +13,6 @@ names c t (edge c' u' v' t') = c == c' && t == t'
 abbrev pub leads_to : ℕ → ℕ → ℕ → Constraint → Bool
 leads_to c v t (vertex c' p' t') = false
 leads_to c v t (edge c' u' v' t') = c == c' && v == v' && t == t'
-
-abbrev pub seeks : Sought → Constraint → Bool
-seeks (Tick c t) b = names c t b
-seeks (To c v t) b = leads_to c v t b
-seeks (Place c p t) b = forbids_place c p t b
-seeks (Crossing c u v t) b = forbids_move c u v t b
 
 module _ {C : Type 0} (a : Asked C) where
   -- some constraint is on the cart at tick t

@@ -4,7 +4,7 @@ use Rattle.std.specs.Prelude.{◌≡◌, ℕ, zero, suc, ◌<◌, ◌≤◌, Lis
 use Rattle.rules.specs.Offers.{Label, joined_lists, total_length}
 use Rattle.labels.specs.declared.layer.Layer.{Layer}
 use Rattle.labels.specs.declared.row.LabelRow.{LabelRow}
-use Rattle.labels.specs.Parts.{Marked}
+use Rattle.charts.specs.Parts.{Marked}
 use Rattle.labels.specs.Queries.{Asked, row_of, label_total}
 use Rattle.labels.specs.Rows.{shown}
 use Rattle.labels.specs.Seeking.{busy_at}
@@ -38,6 +38,9 @@ module _ {C : Type 0} (a : Asked C) where
   -- what a layer says of its tick
   pub record Laid (layer : Layer) : Type 0 where
     pub busy : layer.busy ≡ busy_at a layer.tick
-    pub was_busy : (t : ℕ) → layer.tick ≡ suc t → layer.was_busy ≡ busy_at a t
     pub base : layer.base ≡ length (cells_before a layer.tick)
-    pub before : (t : ℕ) → layer.tick ≡ suc t → layer.before ≡ length (cells_before a t)
+
+  -- what one says of the tick before t, if there is any
+  abbrev pub LaidBefore : ℕ → Option Layer → Type 0
+  LaidBefore t None = t ≡ 0
+  LaidBefore t (Some layer) = (t ≡ suc layer.tick) × Laid layer

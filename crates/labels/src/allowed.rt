@@ -2,9 +2,8 @@ ghost use Rattle.std.specs.Prelude.{◌≡◌};
 ghost use Rattle.labels.specs.Queries.{asked, may_be_at, may_take};
 ghost use Rattle.labels.specs.Seeking.{busy_at, barred_to};
 
-use crate::constraints::some;
+use crate::constraints::{bars_moves_to, forbids_being_at, forbids_going, is_on};
 use crate::query::Query;
-use crate::sought::Sought;
 use carts::Constrains;
 use costs::CostKind;
 use floors::Floor;
@@ -14,7 +13,10 @@ pub fn is_busy<F: Floor, C: CostKind, B: Constrains>(query: &Query<'_, F, C, B>,
     ensures { result ≡ busy_at (asked F.Floor.moves C.CostKind.kind B.Constrains.constraint query.now) tick }
 {
     let cart = query.cart;
-    some(query.constraints, Sought::Tick { cart, tick })
+    query
+        .constraints
+        .iter()
+        .any(|held| is_on(held.constraint(), cart, tick))
 }
 
 // Whether any constraint is on the cart's moves to a place, leaving at a tick; `busy` says whether any is on it at the tick.
@@ -28,10 +30,25 @@ pub fn is_barred<F: Floor, C: CostKind, B: Constrains>(
     ensures { result ≡ barred_to (asked F.Floor.moves C.CostKind.kind B.Constrains.constraint query.now) to tick }
 {
     let cart = query.cart;
-    busy && some(query.constraints, Sought::To { cart, to, tick })
+    busy && query
+        .constraints
+        .iter()
+        .any(|held| bars_moves_to(held.constraint(), cart, to, tick))
 }
 
-// Whether the cart may be at a place at a tick; `busy` says whether any constraint is on it then.
+// Whether the cart may be at a place at a tick.
+pub fn is_free<F: Floor, C: CostKind, B: Constrains>(
+    query: &Query<'_, F, C, B>,
+    place: u8,
+    tick: u8,
+) -> bool
+    ensures { result ≡ may_be_at (asked F.Floor.moves C.CostKind.kind B.Constrains.constraint query.now) place tick }
+{
+    let cart = query.cart;
+    !query.constraints.iter().any(|held| forbids_being_at(held.constraint(), cart, place, tick))
+}
+
+// The same, where `busy` says whether any constraint is on the cart then.
 pub fn may_be<F: Floor, C: CostKind, B: Constrains>(
     query: &Query<'_, F, C, B>,
     busy: bool,
@@ -41,8 +58,7 @@ pub fn may_be<F: Floor, C: CostKind, B: Constrains>(
     requires { busy ≡ busy_at (asked F.Floor.moves C.CostKind.kind B.Constrains.constraint query.now) tick }
     ensures { result ≡ may_be_at (asked F.Floor.moves C.CostKind.kind B.Constrains.constraint query.now) place tick }
 {
-    let cart = query.cart;
-    !busy || !some(query.constraints, Sought::Place { cart, place, tick })
+    !busy || is_free(query, place, tick)
 }
 
 // Whether the cart may go from one place to another, leaving at a tick; `barred` says whether any constraint is on its moves to the latter then.
@@ -58,13 +74,11 @@ pub fn may_go<F: Floor, C: CostKind, B: Constrains>(
 {
     let cart = query.cart;
     !barred
-        || !some(
-            query.constraints,
-            Sought::Crossing {
-                cart,
-                from,
-                to,
-                tick,
-            },
-        )
+        || !query.constraints.iter().any(|held| forbids_going(
+            held.constraint(),
+            cart,
+            from,
+            to,
+            tick,
+        ))
 }

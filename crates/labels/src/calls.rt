@@ -1,43 +1,42 @@
 ghost use Rattle.std.specs.Prelude.{◌≡◌, ◌+◌, length};
-ghost use Rattle.std.specs.Option.{option_map};
 ghost use Rattle.std.specs.List.{slice_get};
-ghost use Rattle.labels.specs.Answers.{refusal, hindrance, walk_hindrance, told, LaidOut, Solved, cost_of, walked, walk_of, Inside, CountPromise, WalkPromise};
+ghost use Rattle.labels.specs.Answers.{refusal, hindrance, walk_hindrance, told, LaidOut, Solved, ArrivalsOf, cost_of, walk_of, Inside, CountPromise, WalkPromise};
 ghost use Rattle.labels.specs.Queries.{asked, label_total, offers_of};
 
+use crate::arrivals::Arrivals;
 use crate::landings::landing_of;
-use crate::offers::{count_all, find_offer};
 use crate::query::Query;
 use crate::refusal::LabelRefusal;
 use crate::row::LabelRow;
 use crate::tables::fill_labels;
-use crate::walks::write_walk;
 use carts::Constrains;
 use costs::CostKind;
 use floors::Floor;
 
-// Why a query is refused before any label is counted, if it is.
-fn refuses<F: Floor, C: CostKind, B: Constrains>(
+// Whether a query is refused before any label is counted.
+fn admit<F: Floor, C: CostKind, B: Constrains>(
     query: &Query<'_, F, C, B>,
     rows: usize,
-) -> Option<LabelRefusal>
-    ensures { result ≡ refusal (asked F.Floor.moves C.CostKind.kind B.Constrains.constraint query.now) rows }
+) -> Result<(), LabelRefusal>
+    ensures { result ≡ told (refusal (asked F.Floor.moves C.CostKind.kind B.Constrains.constraint query.now) rows) tt }
 {
     if query.horizon > 64 {
-        return Some(LabelRefusal::HorizonTooLong);
+        return Err(LabelRefusal::HorizonTooLong);
     }
     if rows > 65535 {
-        return Some(LabelRefusal::TooManyRows);
+        return Err(LabelRefusal::TooManyRows);
     }
-    if query.cart as usize >= query.carts.len() {
-        return Some(LabelRefusal::NoSuchCart);
+    let cart = query
+        .carts
+        .get(query.cart as usize)
+        .ok_or(LabelRefusal::NoSuchCart)?;
+    if cart.start >= query.floor.places() {
+        return Err(LabelRefusal::StartOffFloor);
     }
-    if query.carts[query.cart as usize].start >= query.floor.places() {
-        return Some(LabelRefusal::StartOffFloor);
+    if cart.goal >= query.floor.places() {
+        return Err(LabelRefusal::GoalOffFloor);
     }
-    if query.carts[query.cart as usize].goal >= query.floor.places() {
-        return Some(LabelRefusal::GoalOffFloor);
-    }
-    None
+    Ok(())
 }
 
 // All labels of the cart, in the rows; and where each cell begins.
@@ -49,13 +48,8 @@ fn lay_out<F: Floor, C: CostKind, B: Constrains>(
     requires { length starts.old ≡ 8321 }
     ensures { LaidOut (asked F.Floor.moves C.CostKind.kind B.Constrains.constraint query.now) (length rows.old) rows.new starts.new result }
 {
-    if let Some(refusal) = refuses(query, rows.len()) {
-        return Err(refusal);
-    }
-    match fill_labels(query, rows, starts) {
-        Some(n) => Ok(n),
-        None => Err(LabelRefusal::NoRowLeft),
-    }
+    admit(query, rows.len())?;
+    fill_labels(query, rows, starts).ok_or(LabelRefusal::NoRowLeft)
 }
 
 // How many labels the cart has.
@@ -66,9 +60,25 @@ pub fn count_labels<F: Floor, C: CostKind, B: Constrains>(
     ensures { result ≡ told (hindrance (asked F.Floor.moves C.CostKind.kind B.Constrains.constraint query.now) (length rows.old)) (label_total (asked F.Floor.moves C.CostKind.kind B.Constrains.constraint query.now)) }
 {
     let mut starts = [0u16; 8321];
-    match lay_out(query, rows, &mut starts) {
-        Ok(n) => Ok(n as u16),
-        Err(refusal) => Err(refusal),
+    let n = lay_out(query, rows, &mut starts)?;
+    Ok(n as u16)
+}
+
+// The labels of the cart that arrive, once all of its labels are in the rows.
+fn arrivals_of<'a, F: Floor, C: CostKind, B: Constrains>(
+    query: &Query<'_, F, C, B>,
+    rows: &'a [LabelRow<C>],
+    starts: &'a [u16],
+    end: usize,
+) -> Arrivals<'a, C>
+    requires solved { Solved (asked F.Floor.moves C.CostKind.kind B.Constrains.constraint query.now) rows.now starts.now end }
+    requires table { length starts.now ≡ 8321 }
+    ensures { ArrivalsOf (asked F.Floor.moves C.CostKind.kind B.Constrains.constraint query.now) result }
+{
+    Arrivals {
+        rows: &rows[..end],
+        starts,
+        landing: landing_of(query),
     }
 }
 
@@ -81,34 +91,9 @@ pub fn count_offers<F: Floor, C: CostKind, B: Constrains>(
     ensures promise { Inside (asked F.Floor.moves C.CostKind.kind B.Constrains.constraint query.now).inst → CountPromise (asked F.Floor.moves C.CostKind.kind B.Constrains.constraint query.now) result }
 {
     let mut starts = [0u16; 8321];
-    match lay_out(query, rows, &mut starts) {
-        Ok(end) => Ok(count_all(rows, &starts, landing_of(query), end) as u16),
-        Err(refusal) => Err(refusal),
-    }
-}
-
-// The same as `take_offer`, once the labels are in the rows.
-fn serve<F: Floor, C: CostKind, B: Constrains>(
-    query: &Query<'_, F, C, B>,
-    rows: &[LabelRow<C>],
-    starts: &[u16],
-    end: usize,
-    number: u16,
-    places: &mut [u8],
-) -> Option<C>
-    requires solved { Solved (asked F.Floor.moves C.CostKind.kind B.Constrains.constraint query.now) rows.now starts.now end }
-    requires table { length starts.now ≡ 8321 }
-    requires long { length places.old ≡ query.now.horizon + 1 }
-    ensures answer { result ≡ option_map (λ o. o.cost) (slice_get (offers_of (asked F.Floor.moves C.CostKind.kind B.Constrains.constraint query.now)) number) }
-    ensures written { places.new ≡ walked (slice_get (offers_of (asked F.Floor.moves C.CostKind.kind B.Constrains.constraint query.now)) number) places.old }
-{
-    let landing = landing_of(query);
-    let Some(offer) = find_offer(rows, starts, landing, end, number) else {
-        return None;
-    };
-    let cost = offer.cost;
-    write_walk(&rows[0..end], landing, offer, places);
-    Some(cost)
+    let end = lay_out(query, rows, &mut starts)?;
+    let arrivals = arrivals_of(query, rows, &starts, end);
+    Ok(arrivals.offers().count() as u16)
 }
 
 // The cost of the offer with a number, whose walk is written into `places`; or none, where the cart has no such offer.
@@ -126,8 +111,7 @@ pub fn take_offer<F: Floor, C: CostKind, B: Constrains>(
         return Err(LabelRefusal::WrongLength);
     }
     let mut starts = [0u16; 8321];
-    match lay_out(query, rows, &mut starts) {
-        Ok(end) => Ok(serve(query, rows, &starts, end, number, places)),
-        Err(refusal) => Err(refusal),
-    }
+    let end = lay_out(query, rows, &mut starts)?;
+    let arrivals = arrivals_of(query, rows, &starts, end);
+    Ok(arrivals.write_offer(number, places))
 }

@@ -7,6 +7,4 @@ pub struct Cell {
     pub barred: bool,
     // where the beginnings of the cells of `tick` stand
     pub base: usize,
-    // the first row of the cell
-    pub start: usize,
 }

@@ -1,46 +1,21 @@
 ghost use Rattle.std.specs.Prelude.{◌≡◌, ◌+◌, ◌<◌, ◌≤◌, [], ◌∷◌, ◌++◌, length, take, slice_index_or};
 ghost use Rattle.rules.specs.Fronts.{front_of};
 ghost use Rattle.labels.specs.Cells.{Ready, Grown};
-ghost use Rattle.labels.specs.Indexes.{AllIndexed, Indexed};
 ghost use Rattle.labels.specs.Queries.{asked, row_of, place_count, reaching};
 ghost use Rattle.labels.specs.Rows.{shown, shown_row};
 ghost use Rattle.labels.specs.Seeking.{busy_at};
-ghost use Rattle.labels.specs.Tables.{Hold, Laid, cells_before};
+ghost use Rattle.labels.specs.Tables.{Hold, Laid, LaidBefore, cells_before};
 
 use crate::allowed::{is_barred, may_be};
 use crate::cell::Cell;
-use crate::inbound::Index;
 use crate::layer::Layer;
-use crate::moves::next_label;
-use crate::query::Query;
+use crate::open_cell::OpenCell;
 use crate::row::LabelRow;
+use crate::rows::RowsSoFar;
+use crate::search::Search;
 use carts::Constrains;
 use costs::CostKind;
 use floors::Floor;
-
-// The labels that come to the cell, as rows from its start on.
-fn fill_front<F: Floor, C: CostKind, B: Constrains>(
-    query: &Query<'_, F, C, B>,
-    index: &Index,
-    cell: Cell,
-    rows: &mut [LabelRow<C>],
-    starts: &[u16],
-) -> Option<usize>
-    requires ready { Ready (asked F.Floor.moves C.CostKind.kind B.Constrains.constraint query.now) cell rows.old starts.now cell.start }
-    requires place { cell.place < place_count (asked F.Floor.moves C.CostKind.kind B.Constrains.constraint query.now) }
-    requires indexed { Indexed index.now.begins index.now.moves (F.Floor.moves query.now.floor.now) cell.place }
-    ensures { Grown rows.old rows.new cell.start (front_of C.CostKind.kind (reaching (asked F.Floor.moves C.CostKind.kind B.Constrains.constraint query.now) cell.tick cell.place)) result }
-{
-    let mut end = cell.start;
-    while let Some(row) = next_label(query, index, cell, rows, starts, end) {
-        if end == rows.len() {
-            return None;
-        }
-        rows[end] = row;
-        end += 1;
-    }
-    Some(end)
-}
 
 // One row more, if there is room.
 fn push_row<C: CostKind>(rows: &mut [LabelRow<C>], n: usize, row: LabelRow<C>) -> Option<usize>
@@ -54,95 +29,111 @@ fn push_row<C: CostKind>(rows: &mut [LabelRow<C>], n: usize, row: LabelRow<C>) -
     Some(n + 1)
 }
 
-// The cell of a place at tick 0: the cart's start, if it may be there.
-fn first_cell<F: Floor, C: CostKind, B: Constrains>(
-    query: &Query<'_, F, C, B>,
-    busy: bool,
-    place: u8,
-    rows: &mut [LabelRow<C>],
-    n: usize,
-) -> Option<usize>
-    requires within { n ≤ length rows.old }
-    requires few { length rows.old ≤ 65535 }
-    requires known { query.now.cart < length query.now.carts.now }
-    requires place { place < place_count (asked F.Floor.moves C.CostKind.kind B.Constrains.constraint query.now) }
-    requires busy { busy ≡ busy_at (asked F.Floor.moves C.CostKind.kind B.Constrains.constraint query.now) 0 }
-    ensures { Grown rows.old rows.new n (slice_index_or (row_of (asked F.Floor.moves C.CostKind.kind B.Constrains.constraint query.now) 0) place []) result }
-{
-    if place != query.carts[query.cart as usize].start {
-        return Some(n);
+impl<F: Floor, C: CostKind, B: Constrains> Search<'_, F, C, B> {
+    // The labels that come to the cell, as rows from the first `n` on.
+    fn fill_front(
+        &self,
+        cell: Cell,
+        rows: &mut [LabelRow<C>],
+        starts: &[u16],
+        n: usize,
+    ) -> Option<usize>
+        requires within { n ≤ length rows.old }
+        requires few { length rows.old ≤ 65535 }
+        requires place { cell.place < place_count (asked F.Floor.moves C.CostKind.kind B.Constrains.constraint self.now.query.now) }
+        requires ready { Ready (asked F.Floor.moves C.CostKind.kind B.Constrains.constraint self.now.query.now) cell (take n rows.old) starts.now }
+        ensures { Grown rows.old rows.new n (front_of C.CostKind.kind (reaching (asked F.Floor.moves C.CostKind.kind B.Constrains.constraint self.now.query.now) cell.tick cell.place)) result }
+    {
+        let mut end = n;
+        while let Some(row) = (OpenCell {
+            search: self,
+            cell,
+            so_far: RowsSoFar::new(&rows[..end], n),
+            starts,
+        })
+        .next_label()
+        {
+            end = push_row(rows, end, row)?;
+        }
+        Some(end)
     }
-    if !may_be(query, busy, place, 0) {
-        return Some(n);
+
+    // The cell of a place at tick 0: the cart's start, if it may be there.
+    fn first_cell(&self, busy: bool, place: u8, rows: &mut [LabelRow<C>], n: usize) -> Option<usize>
+        requires within { n ≤ length rows.old }
+        requires few { length rows.old ≤ 65535 }
+        requires place { place < place_count (asked F.Floor.moves C.CostKind.kind B.Constrains.constraint self.now.query.now) }
+        requires busy { busy ≡ busy_at (asked F.Floor.moves C.CostKind.kind B.Constrains.constraint self.now.query.now) 0 }
+        ensures { Grown rows.old rows.new n (slice_index_or (row_of (asked F.Floor.moves C.CostKind.kind B.Constrains.constraint self.now.query.now) 0) place []) result }
+    {
+        let query = self.query;
+        if place == query.carts[query.cart as usize].start && may_be(query, busy, place, 0) {
+            push_row(
+                rows,
+                n,
+                LabelRow {
+                    cost: C::zero(),
+                    parent: u16::MAX,
+                    place,
+                },
+            )
+        } else {
+            Some(n)
+        }
     }
-    let cost = C::zero();
-    push_row(
-        rows,
-        n,
-        LabelRow {
-            cost,
-            parent: u16::MAX,
+
+    // The cell of a place at the tick of a layer, after the one before.
+    fn later_cell(
+        &self,
+        before: Layer,
+        layer: Layer,
+        place: u8,
+        rows: &mut [LabelRow<C>],
+        starts: &[u16],
+        n: usize,
+    ) -> Option<usize>
+        requires few { length rows.old ≤ 65535 }
+        requires place { place < place_count (asked F.Floor.moves C.CostKind.kind B.Constrains.constraint self.now.query.now) }
+        requires laid { Laid (asked F.Floor.moves C.CostKind.kind B.Constrains.constraint self.now.query.now) layer }
+        requires laid_before { LaidBefore (asked F.Floor.moves C.CostKind.kind B.Constrains.constraint self.now.query.now) layer.tick (Some before) }
+        requires table { layer.base + place_count (asked F.Floor.moves C.CostKind.kind B.Constrains.constraint self.now.query.now) < length starts.now }
+        requires held { Hold rows.old starts.now (cells_before (asked F.Floor.moves C.CostKind.kind B.Constrains.constraint self.now.query.now) layer.tick ++ take place (row_of (asked F.Floor.moves C.CostKind.kind B.Constrains.constraint self.now.query.now) layer.tick)) n }
+        ensures { Grown rows.old rows.new n (slice_index_or (row_of (asked F.Floor.moves C.CostKind.kind B.Constrains.constraint self.now.query.now) layer.tick) place []) result }
+    {
+        let query = self.query;
+        if !may_be(query, layer.busy, place, layer.tick) {
+            return Some(n);
+        }
+        let cell = Cell {
+            tick: before.tick,
             place,
-        },
-    )
-}
-
-// The cell of a place at a tick after the first.
-fn later_cell<F: Floor, C: CostKind, B: Constrains>(
-    query: &Query<'_, F, C, B>,
-    index: &Index,
-    layer: Layer,
-    place: u8,
-    rows: &mut [LabelRow<C>],
-    starts: &[u16],
-    n: usize,
-) -> Option<usize>
-    requires later { 0 < layer.tick }
-    requires few { length rows.old ≤ 65535 }
-    requires place { place < place_count (asked F.Floor.moves C.CostKind.kind B.Constrains.constraint query.now) }
-    requires indexed { AllIndexed index.now.begins index.now.moves (F.Floor.moves query.now.floor.now) }
-    requires laid { Laid (asked F.Floor.moves C.CostKind.kind B.Constrains.constraint query.now) layer }
-    requires table { layer.base + place_count (asked F.Floor.moves C.CostKind.kind B.Constrains.constraint query.now) < length starts.now }
-    requires held { Hold rows.old starts.now (cells_before (asked F.Floor.moves C.CostKind.kind B.Constrains.constraint query.now) layer.tick ++ take place (row_of (asked F.Floor.moves C.CostKind.kind B.Constrains.constraint query.now) layer.tick)) n }
-    ensures { Grown rows.old rows.new n (slice_index_or (row_of (asked F.Floor.moves C.CostKind.kind B.Constrains.constraint query.now) layer.tick) place []) result }
-{
-    if !may_be(query, layer.busy, place, layer.tick) {
-        return Some(n);
+            barred: is_barred(query, before.busy, place, before.tick),
+            base: before.base,
+        };
+        self.fill_front(cell, rows, starts, n)
     }
-    let tick = layer.tick - 1;
-    let barred = is_barred(query, layer.was_busy, place, tick);
-    let cell = Cell {
-        tick,
-        place,
-        barred,
-        base: layer.before,
-        start: n,
-    };
-    fill_front(query, index, cell, rows, starts)
-}
 
-// The cell of a place, after those before it.
-pub fn fill_cell<F: Floor, C: CostKind, B: Constrains>(
-    query: &Query<'_, F, C, B>,
-    index: &Index,
-    layer: Layer,
-    place: u8,
-    rows: &mut [LabelRow<C>],
-    starts: &[u16],
-    n: usize,
-) -> Option<usize>
-    requires few { length rows.old ≤ 65535 }
-    requires known { query.now.cart < length query.now.carts.now }
-    requires place { place < place_count (asked F.Floor.moves C.CostKind.kind B.Constrains.constraint query.now) }
-    requires indexed { AllIndexed index.now.begins index.now.moves (F.Floor.moves query.now.floor.now) }
-    requires laid { Laid (asked F.Floor.moves C.CostKind.kind B.Constrains.constraint query.now) layer }
-    requires table { layer.base + place_count (asked F.Floor.moves C.CostKind.kind B.Constrains.constraint query.now) < length starts.now }
-    requires held { Hold rows.old starts.now (cells_before (asked F.Floor.moves C.CostKind.kind B.Constrains.constraint query.now) layer.tick ++ take place (row_of (asked F.Floor.moves C.CostKind.kind B.Constrains.constraint query.now) layer.tick)) n }
-    ensures { Grown rows.old rows.new n (slice_index_or (row_of (asked F.Floor.moves C.CostKind.kind B.Constrains.constraint query.now) layer.tick) place []) result }
-{
-    if layer.tick == 0 {
-        first_cell(query, layer.busy, place, rows, n)
-    } else {
-        later_cell(query, index, layer, place, rows, starts, n)
+    // The cell of a place, after those before it.
+    pub fn fill_cell(
+        &self,
+        before: Option<Layer>,
+        layer: Layer,
+        place: u8,
+        rows: &mut [LabelRow<C>],
+        starts: &[u16],
+        n: usize,
+    ) -> Option<usize>
+        requires few { length rows.old ≤ 65535 }
+        requires place { place < place_count (asked F.Floor.moves C.CostKind.kind B.Constrains.constraint self.now.query.now) }
+        requires laid { Laid (asked F.Floor.moves C.CostKind.kind B.Constrains.constraint self.now.query.now) layer }
+        requires laid_before { LaidBefore (asked F.Floor.moves C.CostKind.kind B.Constrains.constraint self.now.query.now) layer.tick before }
+        requires table { layer.base + place_count (asked F.Floor.moves C.CostKind.kind B.Constrains.constraint self.now.query.now) < length starts.now }
+        requires held { Hold rows.old starts.now (cells_before (asked F.Floor.moves C.CostKind.kind B.Constrains.constraint self.now.query.now) layer.tick ++ take place (row_of (asked F.Floor.moves C.CostKind.kind B.Constrains.constraint self.now.query.now) layer.tick)) n }
+        ensures { Grown rows.old rows.new n (slice_index_or (row_of (asked F.Floor.moves C.CostKind.kind B.Constrains.constraint self.now.query.now) layer.tick) place []) result }
+    {
+        match before {
+            None => self.first_cell(layer.busy, place, rows, n),
+            Some(before) => self.later_cell(before, layer, place, rows, starts, n),
+        }
     }
 }

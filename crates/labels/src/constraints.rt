@@ -1,75 +1,51 @@
-ghost use Rattle.std.specs.Prelude.{◌≡◌, map};
-ghost use Rattle.rules.specs.Walks.{any_of};
+ghost use Rattle.std.specs.Prelude.{◌≡◌};
+ghost use Rattle.rules.specs.Walks.{forbids_place, forbids_move};
 ghost use Rattle.carts.specs.Carts.{constraint_of};
-ghost use Rattle.labels.specs.Seeking.{seeks};
+ghost use Rattle.labels.specs.Seeking.{names, leads_to};
 
-use crate::sought::Sought;
-use carts::{Constrains, Constraint};
+use carts::Constraint;
 
-fn meets(constraint: Constraint, sought: Sought) -> bool
-    ensures { result ≡ seeks sought (constraint_of constraint) }
+// Whether a constraint is on a cart at a tick.
+pub fn is_on(constraint: Constraint, cart: u8, tick: u8) -> bool
+    ensures { result ≡ names cart tick (constraint_of constraint) }
 {
-    match (sought, constraint) {
-        (
-            Sought::Tick { cart, tick },
-            Constraint::Vertex {
-                cart: c,
-                place: _,
-                tick: t,
-            },
-        ) => cart == c && tick == t,
-        (
-            Sought::Tick { cart, tick },
-            Constraint::Edge {
-                cart: c,
-                from: _,
-                to: _,
-                tick: t,
-            },
-        ) => cart == c && tick == t,
-        (
-            Sought::To { cart, to, tick },
-            Constraint::Edge {
-                cart: c,
-                from: _,
-                to: v,
-                tick: t,
-            },
-        ) => cart == c && to == v && tick == t,
-        (
-            Sought::Place { cart, place, tick },
-            Constraint::Vertex {
-                cart: c,
-                place: p,
-                tick: t,
-            },
-        ) => cart == c && place == p && tick == t,
-        (
-            Sought::Crossing {
-                cart,
-                from,
-                to,
-                tick,
-            },
-            Constraint::Edge {
-                cart: c,
-                from: u,
-                to: v,
-                tick: t,
-            },
-        ) => cart == c && from == u && to == v && tick == t,
-        _ => false,
+    match constraint {
+        Constraint::Vertex {
+            cart: c,
+            tick: t,
+            ..
+        }
+        | Constraint::Edge {
+            cart: c,
+            tick: t,
+            ..
+        } => cart == c && tick == t,
     }
 }
 
-// Whether some constraint is what is sought.
-pub fn some<B: Constrains>(constraints: &[B], sought: Sought) -> bool
-    ensures { result ≡ any_of (seeks sought) (map B.Constrains.constraint constraints.now) }
+// Whether it is on the cart's moves to a place, leaving at a tick.
+pub fn bars_moves_to(constraint: Constraint, cart: u8, to: u8, tick: u8) -> bool
+    ensures { result ≡ leads_to cart to tick (constraint_of constraint) }
 {
-    for i in 0..constraints.len() {
-        if meets(constraints[i].constraint(), sought) {
-            return true;
+    matches!(constraint, Constraint::Edge { cart: c, to: v, tick: t, .. } if cart == c && to == v && tick == t)
+}
+
+// Whether it keeps the cart from a place at a tick.
+pub fn forbids_being_at(constraint: Constraint, cart: u8, place: u8, tick: u8) -> bool
+    ensures { result ≡ forbids_place cart place tick (constraint_of constraint) }
+{
+    constraint == Constraint::Vertex { cart, place, tick }
+}
+
+// Whether it keeps the cart from a move, leaving at a tick.
+pub fn forbids_going(constraint: Constraint, cart: u8, from: u8, to: u8, tick: u8) -> bool
+    ensures { result ≡ forbids_move cart from to tick (constraint_of constraint) }
+{
+    constraint
+        == Constraint::Edge {
+            cart,
+            from,
+            to,
+            tick,
         }
-    }
-    false
 }

@@ -6,11 +6,3 @@ pub struct Landing {
     pub goal: u8,
     pub places: u8,
 }
-
-// An offer: a cost, the row of the label that has it, and the tick at which that arrives.
-#[derive(Clone, Copy)]
-pub struct Offer<C> {
-    pub cost: C,
-    pub label: u16,
-    pub tick: u8,
-}

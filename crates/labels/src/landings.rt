@@ -2,10 +2,9 @@ ghost use Rattle.std.specs.Prelude.{◌<◌, length};
 ghost use Rattle.labels.specs.Arrivals.{StandsFrom, LandingOf};
 ghost use Rattle.labels.specs.Queries.{asked};
 
-use crate::constraints::some;
+use crate::allowed::is_free;
 use crate::landing::Landing;
 use crate::query::Query;
-use crate::sought::Sought;
 use carts::Constrains;
 use costs::CostKind;
 use floors::Floor;
@@ -15,11 +14,10 @@ fn stands_from<F: Floor, C: CostKind, B: Constrains>(query: &Query<'_, F, C, B>)
     requires { query.now.cart < length query.now.carts.now }
     ensures { StandsFrom (asked F.Floor.moves C.CostKind.kind B.Constrains.constraint query.now) result }
 {
-    let cart = query.cart;
-    let place = query.carts[cart as usize].goal;
+    let place = query.carts[query.cart as usize].goal;
     let mut tick = query.horizon;
     while tick > 0 {
-        if some(query.constraints, Sought::Place { cart, place, tick }) {
+        if !is_free(query, place, tick) {
             return tick;
         }
         tick -= 1;

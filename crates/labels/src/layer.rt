@@ -2,10 +2,8 @@
 #[derive(Clone, Copy)]
 pub struct Layer {
     pub tick: u8,
-    // whether any constraint is on the cart at the tick, and at the one before
+    // whether any constraint is on the cart at the tick
     pub busy: bool,
-    pub was_busy: bool,
-    // where the beginnings of the tick's cells stand, and those of the one before
+    // where the beginnings of the tick's cells stand
     pub base: usize,
-    pub before: usize,
 }

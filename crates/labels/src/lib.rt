@@ -1,22 +1,22 @@
 #![tactic(auto)]
 
 mod allowed;
+mod arrivals;
 mod calls;
 mod cell;
 mod cells;
 mod constraints;
-mod inbound;
-mod index;
 mod landing;
 mod landings;
 mod layer;
-mod moves;
+mod offer;
 mod offers;
+mod open_cell;
 mod query;
 mod refusal;
 mod row;
 mod rows;
-mod sought;
+mod search;
 mod tables;
 mod walks;
 

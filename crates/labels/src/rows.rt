@@ -1,4 +1,4 @@
-ghost use Rattle.std.specs.Prelude.{◌≡◌, ◌<◌, ◌≤◌, not, ◌&&◌, length, take, drop, None};
+ghost use Rattle.std.specs.Prelude.{◌≡◌, ◌≤◌, not, ◌&&◌, length, take, drop, None};
 ghost use Rattle.rules.specs.Fronts.{covered};
 ghost use Rattle.labels.specs.Picks.{picked, comes_after, last_cost, passed_over};
 ghost use Rattle.labels.specs.Rows.{shown, shown_best, extended_by, leads};
@@ -6,114 +6,91 @@ ghost use Rattle.labels.specs.Rows.{shown, shown_best, extended_by, leads};
 use crate::row::LabelRow;
 use costs::CostKind;
 
-// Whether some row from `from` to `to` costs at most `c`.
-fn covers<C: CostKind>(rows: &[LabelRow<C>], from: usize, to: usize, c: C) -> bool
-    requires run { from ≤ to }
-    requires within { to ≤ length rows.now }
-    ensures { result ≡ covered C.CostKind.kind (drop from (shown (take to rows.now))) c }
-{
-    for i in from..to {
-        if rows[i].cost.at_most(c) {
-            return true;
-        }
-    }
-    false
+// The rows so far: those from `start` on are of the cell that is being filled, and the last of those costs `last`.
+#[derive(Drop)]
+pub struct RowsSoFar<'a, C> {
+    pub rows: &'a [LabelRow<C>],
+    pub start: usize,
+    pub last: Option<C>,
+    ghost cell: { start ≤ length rows.now },
+    ghost few: { length rows.now ≤ 65535 },
 }
 
 // Whether `c` comes before the best so far.
 fn comes_first<C: CostKind>(best: Option<LabelRow<C>>, c: C) -> bool
     ensures { result ≡ leads C.CostKind.kind best c }
 {
-    match best {
-        Some(b) => c.before(b.cost),
-        None => true,
-    }
+    best.is_none_or(|b| c.before(b.cost))
 }
 
 // Whether `c` comes after the last cost taken.
 pub fn is_after<C: CostKind>(last: Option<C>, c: C) -> bool
     ensures { result ≡ comes_after C.CostKind.kind last c }
 {
-    match last {
-        Some(b) => b.before(c),
-        None => true,
+    last.is_none_or(|b| b.before(c))
+}
+
+impl<'a, C: CostKind> RowsSoFar<'a, C> {
+    // The rows so far, of which those from `start` on are the cell's.
+    pub fn new(rows: &'a [LabelRow<C>], start: usize) -> Self
+        requires cell { start ≤ length rows.now }
+        requires few { length rows.now ≤ 65535 }
+        ensures rows { result.rows.now ≡ rows.now }
+        ensures start { result.start ≡ start }
+        ensures last { result.last ≡ last_cost C.CostKind.kind None (drop start (shown rows.now)) }
+    {
+        let last = rows[start..].last().map(|row| row.cost);
+        RowsSoFar { rows, start, last }
     }
-}
 
-// The cost of the last row of a cell, if it has any.
-pub fn last_of<C: CostKind>(rows: &[LabelRow<C>], start: usize, end: usize) -> Option<C>
-    requires cell { start ≤ end }
-    requires within { end ≤ length rows.now }
-    ensures { result ≡ last_cost C.CostKind.kind None (drop start (shown (take end rows.now))) }
-{
-    if start == end {
-        return None;
+    // Whether some row of the cell costs at most `c`.
+    fn covers(&self, c: C) -> bool
+        ensures { result ≡ covered C.CostKind.kind (drop self.now.start (shown self.now.rows.now)) c }
+    {
+        self.rows[self.start..]
+            .iter()
+            .any(|row| row.cost.at_most(c))
     }
-    Some(rows[end - 1].cost)
-}
 
-// Whether `c` may be the cost of the next row of the cell: it comes after the last one's, and no row of the cell covers it.
-// What does not come after the last one's cost is covered; that test is the cheap one.
-fn may_follow<C: CostKind>(
-    rows: &[LabelRow<C>],
-    start: usize,
-    end: usize,
-    last: Option<C>,
-    c: C,
-) -> bool
-    requires cell { start ≤ end }
-    requires within { end ≤ length rows.now }
-    ensures { result ≡ not (passed_over C.CostKind.kind last (drop start (shown (take end rows.now))) c) }
-{
-    is_after(last, c) && !covers(rows, start, end, c)
-}
+    // Whether `c` may be the cost of the next row of the cell: it comes after the last one's, and no row of the cell covers it.
+    // What does not come after the last one's cost is covered; that test is the cheap one.
+    fn may_follow(&self, c: C) -> bool
+        ensures { result ≡ not (passed_over C.CostKind.kind self.now.last (drop self.now.start (shown self.now.rows.now)) c) }
+    {
+        is_after(self.last, c) && !self.covers(c)
+    }
 
-// Whether a label of the cost `c` is better than the best so far: it comes before it, and may be the next.
-fn improves<C: CostKind>(
-    rows: &[LabelRow<C>],
-    start: usize,
-    end: usize,
-    last: Option<C>,
-    best: Option<LabelRow<C>>,
-    c: C,
-) -> bool
-    requires cell { start ≤ end }
-    requires within { end ≤ length rows.now }
-    ensures { result ≡ (leads C.CostKind.kind best c && not (passed_over C.CostKind.kind last (drop start (shown (take end rows.now))) c)) }
-{
-    comes_first(best, c) && may_follow(rows, start, end, last, c)
-}
+    // Whether a label of the cost `c` is better than the best so far: it comes before it, and may be the next.
+    fn improves(&self, best: Option<LabelRow<C>>, c: C) -> bool
+        ensures { result ≡ (leads C.CostKind.kind best c && not (passed_over C.CostKind.kind self.now.last (drop self.now.start (shown self.now.rows.now)) c)) }
+    {
+        comes_first(best, c) && self.may_follow(c)
+    }
 
-// The best so far, once the rows from `from` to `to` have gone on to `place` for `price`.
-// The cell that is being filled has the rows from `start` to `end`, which are the last; the last of them costs `last`.
-pub fn along<C: CostKind>(
-    rows: &[LabelRow<C>],
-    from: usize,
-    to: usize,
-    start: usize,
-    end: usize,
-    price: C,
-    place: u8,
-    last: Option<C>,
-    best: Option<LabelRow<C>>,
-) -> Option<LabelRow<C>>
-    requires run { from ≤ to }
-    requires before { to ≤ end }
-    requires cell { start ≤ end }
-    requires within { end ≤ length rows.now }
-    requires few { length rows.now ≤ 65535 }
-    ensures { shown_best (shown (take end rows.now)) result ≡ picked C.CostKind.kind (passed_over C.CostKind.kind last (drop start (shown (take end rows.now)))) (shown_best (shown (take end rows.now)) best) (extended_by C.CostKind.kind price place (drop from (take to (shown (take end rows.now))))) }
-{
-    let mut best = best;
-    for i in from..to {
-        let cost = rows[i].cost.join(price);
-        if improves(rows, start, end, last, best, cost) {
-            best = Some(LabelRow {
-                cost,
-                parent: i as u16,
-                place,
-            });
+    // The best so far, once the rows from `from` to `to` have gone on to `place` for `price`.
+    pub fn along(
+        &self,
+        from: usize,
+        to: usize,
+        price: C,
+        place: u8,
+        best: Option<LabelRow<C>>,
+    ) -> Option<LabelRow<C>>
+        requires run { from ≤ to }
+        requires within { to ≤ length self.now.rows.now }
+        ensures { let ls = shown self.now.rows.now in shown_best ls result ≡ picked C.CostKind.kind (passed_over C.CostKind.kind self.now.last (drop self.now.start ls)) (shown_best ls best) (extended_by C.CostKind.kind price place (drop from (take to ls))) }
+    {
+        let mut best = best;
+        for (i, row) in self.rows[from..to].iter().enumerate() {
+            let cost = row.cost.join(price);
+            if self.improves(best, cost) {
+                best = Some(LabelRow {
+                    cost,
+                    parent: (from + i) as u16,
+                    place,
+                });
+            }
         }
+        best
     }
-    best
 }

@@ -1,16 +1,14 @@
 -- What is printed for every input: the page of the costs that it says, or one line on the first thing that is wrong with it.
 -- Assumes nothing.
-use Rattle.std.specs.Prelude.{◌≡◌, ℕ, ◌<◌, ◌≤◌, List, length, is_ok, Ok, Err, vec_items, string_bytes, Decides, Result, Vec}
+use Rattle.std.specs.Prelude.{◌≡◌, ℕ, ◌<◌, ◌≤◌, List, length, is_ok, Ok, Err, vec_items, string_bytes, Decides, Result, String, Vec}
 use Rattle.std.specs.List.{ContainsAt as Has}
 use Rattle.std.specs.declared.alloc.Global.{Global}
 use Rattle.rules.specs.Kinds.{Kind}
 use Rattle.rules.specs.Fronts.{Front}
-use Rattle.prices.specs.declared.answer.Answer.{Answer}
-use Rattle.prices.specs.declared.answer.Answer.TheVariants.{Page, NoPage}
+use Rattle.pages.specs.declared.stop.Stop.{Stop}
+use Rattle.pages.specs.Stops.{MadeOrRefused}
 use Rattle.prices.specs.declared.refusal.Fault.TheVariants.{TooManyBytes}
 use Rattle.prices.specs.declared.refusal.Refusal.{Refusal}
-use Rattle.prices.specs.declared.refusal.Stop.{Stop}
-use Rattle.prices.specs.declared.refusal.Stop.TheVariants.{Memory, Refused}
 use Rattle.prices.specs.PriceLists.{said, WrongAt}
 use Rattle.prices.specs.Pages.{page}
 use Rattle.prices.specs.Refusals.{refusal_text}
@@ -19,9 +17,9 @@ use Rattle.prices.specs.Refusals.{refusal_text}
 abbrev pub Output : Type 0
 Output = Result (List ℕ) (List ℕ)
 
-abbrev pub output : Answer → Output
-output (Page v) = Ok (vec_items v)
-output (NoPage s) = Err (string_bytes s)
+abbrev pub output : Result (Vec ℕ Global) (String Global) → Output
+output (Ok v) = Ok (vec_items v)
+output (Err s) = Err (string_bytes s)
 
 -- the input says costs, and the bytes are the page of their front: of those that no other dominates, each once, in the kind's order
 pub record PageOf {C : Type 0} (line text : C → List ℕ) (k : Kind C) (input out : List ℕ) : Type 0 where
@@ -47,7 +45,5 @@ module _ {C : Type 0} (line : C → List ℕ) (Large : List ℕ → Type 0) (tex
   PageExactly = (input : List ℕ) (out : Output) → Answers input out → Decides (is_ok out) ((length input ≤ 16384) × ((costs : List C) × (input ≡ said line costs)))
 
   -- the same before the refusal is put into words; memory may be wanting at any time
-  abbrev pub PageMade : List ℕ → Result (Vec ℕ Global) Stop → Type 0
-  PageMade input (Ok v) = PageOf line text k input (vec_items v)
-  PageMade input (Err (Refused refusal)) = RefusedFor line Large input refusal
-  PageMade input (Err Memory) = Unit {0}
+  abbrev pub PageMade : List ℕ → Result (Vec ℕ Global) (Stop Refusal) → Type 0
+  PageMade input = MadeOrRefused (λ v. PageOf line text k input (vec_items v)) (RefusedFor line Large input)

@@ -1,6 +1,6 @@
 -- Price lists: the bytes that say a list of costs, and where other bytes go wrong.
 -- Assumes nothing.
-use Rattle.std.specs.Prelude.{◌≡◌, ℕ, ◌+◌, ◌<◌, List, [], ◌∷◌, ◌++◌, length, Ok, Err, vec_items, Result, Vec}
+use Rattle.std.specs.Prelude.{◌≡◌, ℕ, ◌+◌, ◌<◌, List, [], ◌∷◌, ◌++◌, length, Err, vec_items, Result, Vec}
 use Rattle.std.specs.declared.alloc.Global.{Global}
 use Rattle.fronts.specs.Rows.{entries}
 use Rattle.fronts.specs.Whole.{costs_of}
@@ -8,8 +8,8 @@ use Rattle.fronts.specs.declared.row.Row.{Row}
 use Rattle.prices.specs.declared.refusal.Fault.{Fault}
 use Rattle.prices.specs.declared.refusal.Fault.TheVariants.{Line, NoNewline, TooManyBytes, UnknownList}
 use Rattle.prices.specs.declared.refusal.Refusal.{Refusal}
-use Rattle.prices.specs.declared.refusal.Stop.{Stop}
-use Rattle.prices.specs.declared.refusal.Stop.TheVariants.{Memory, Refused}
+use Rattle.pages.specs.declared.stop.Stop.{Stop}
+use Rattle.pages.specs.Stops.{MadeOrRefused}
 use Rattle.digits.specs.Splits.{Without}
 use Rattle.prices.specs.Lines.{LineRead}
 
@@ -45,7 +45,5 @@ module _ {C : Type 0} (line : C → List ℕ) (Large : List ℕ → Type 0) wher
     pub one_refusal : (bs : List ℕ) (r s : Refusal) → WrongAt bs r → WrongAt bs s → r ≡ s
 
   -- what reading a list says: the costs that it says, or where it goes wrong; memory may be wanting at any time
-  abbrev pub ListRead : List ℕ → Result (Vec (Row C) Global) Stop → Type 0
-  ListRead bs (Ok v) = bs ≡ said line (costs_in v)
-  ListRead bs (Err (Refused refusal)) = WrongAt bs refusal
-  ListRead bs (Err Memory) = Unit {0}
+  abbrev pub ListRead : List ℕ → Result (Vec (Row C) Global) (Stop Refusal) → Type 0
+  ListRead bs = MadeOrRefused (λ v. bs ≡ said line (costs_in v)) (WrongAt bs)

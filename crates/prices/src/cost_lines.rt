@@ -12,10 +12,10 @@ fn both(a: Result<u32, ReadFault>, b: Result<u32, ReadFault>) -> Result<(u32, u3
 {
     match (a, b) {
         (Ok(m), Ok(n)) => Ok((m, n)),
-        (Ok(_), Err(fault)) => Err(fault),
-        (Err(fault), Ok(_)) => Err(fault),
-        (Err(ReadFault::TooLarge), Err(ReadFault::TooLarge)) => Err(ReadFault::TooLarge),
-        _ => Err(ReadFault::Malformed),
+        (Err(ReadFault::Malformed), _) | (_, Err(ReadFault::Malformed)) => Err(
+            ReadFault::Malformed,
+        ),
+        _ => Err(ReadFault::TooLarge),
     }
 }
 
@@ -27,10 +27,11 @@ impl Priced for Pair<Total, Worst> {
     ghost lines = { cost_lines };
 
     fn read_line(bytes: &[u8]) -> Result<Pair<Total, Worst>, ReadFault> {
-        let Some((left, right)) = split_once(bytes, b' ') else {
-            return Err(ReadFault::Malformed);
-        };
-        let (total, worst) = both(read_number(left, 4_294_967_295), read_number(right, 65_535))?;
+        let (left, right) = split_once(bytes, b' ').ok_or(ReadFault::Malformed)?;
+        let (total, worst) = both(
+            read_number(left, u32::MAX),
+            read_number(right, u16::MAX as u32),
+        )?;
         Ok(Pair {
             first: Total { value: total },
             second: Worst {

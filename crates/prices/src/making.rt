@@ -6,32 +6,27 @@ ghost use Rattle.fronts.specs.Whole.{costs_of};
 ghost use Rattle.prices.specs.PriceLists.{costs_in};
 ghost use Rattle.prices.specs.Answers.{PageMade, Answers, output};
 
-use crate::answer::Answer;
 use crate::page::write_page;
 use crate::priced::Priced;
 use crate::reading::read_list;
-use crate::refusal::{Fault, Refusal, Stop};
+use crate::refusal::{Fault, Refusal};
 use costs::CostKind;
 use fronts::{Row, front_of};
+use pages::{MOST_BYTES, Stop};
 use std::alloc::{AllocError, Global};
-
-// The most bytes that a price list has.
-pub const MOST_BYTES: usize = 16_384;
 
 // The front of the given rows.
 fn front_rows<C: CostKind>(given: &[Row<C>], heap: Global) -> Result<Vec<Row<C>>, AllocError>
     ensures { IfOk result (λ v. Front C.CostKind.kind (Has (costs_of (entries given.now))) (costs_in v)) }
 {
     let mut rows = Vec::from_slice(heap, given)?;
-    let Some(kept) = front_of(given, rows.as_mut_slice()) else {
-        unreachable()
-    };
+    let kept = front_of(given, rows.as_mut_slice()).unwrap();
     rows.truncate(kept);
     Ok(rows)
 }
 
 // The page for a price list.
-fn make_page<C: Priced>(input: &[u8], heap: Global) -> Result<Vec<u8>, Stop>
+fn make_page<C: Priced>(input: &[u8], heap: Global) -> Result<Vec<u8>, Stop<Refusal>>
     ensures { PageMade C.Priced.line C.Priced.large C.Text.text C.CostKind.kind input.now result }
 {
     if input.len() > MOST_BYTES {
@@ -47,12 +42,14 @@ fn make_page<C: Priced>(input: &[u8], heap: Global) -> Result<Vec<u8>, Stop>
 }
 
 // What is printed for a price list.
-pub(crate) fn answer_list<C: Priced>(input: &[u8], heap: Global) -> Result<Answer, AllocError>
+pub(crate) fn answer_list<C: Priced>(
+    input: &[u8],
+    heap: Global,
+) -> Result<Result<Vec<u8>, String>, AllocError>
     ensures { IfOk result (λ a. Answers C.Priced.line C.Priced.large C.Text.text C.CostKind.kind input.now (output a)) }
 {
     match make_page::<C>(input, heap) {
-        Ok(page) => Ok(Answer::Page(page)),
-        Err(Stop::Refused(refusal)) => Ok(Answer::NoPage(refusal.text(heap)?)),
-        Err(Stop::Memory) => Err(AllocError),
+        Ok(page) => Ok(Ok(page)),
+        Err(stop) => Ok(Err(stop.refusal()?.to_string(heap)?)),
     }
 }

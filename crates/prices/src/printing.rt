@@ -2,7 +2,6 @@ ghost use Rattle.std.specs.Prelude.{IfOk};
 ghost use Rattle.prices.specs.Answers.{output};
 ghost use Rattle.prices.specs.Printed.{Printed, OneReadings, PagesExactly, OnePrint};
 
-use crate::answer::Answer;
 use crate::making::answer_list;
 use crate::refusal::{Fault, Refusal};
 use costs::{Pair, Total, Worst, Zones};
@@ -11,7 +10,12 @@ use std::alloc::{AllocError, Global};
 // What is printed for the list of this name and the input: the page of the front of the costs that the input says, or
 // one line on the first thing that is wrong. It fails only for want of memory.
 // Besides: an input is read in one way only, there is a page exactly where it says a list, and there is only one thing to print.
-pub fn front_page(name: &str, input: &[u8], heap: Global) -> Result<Answer, AllocError>
+#[tactic(auto, using(crate::proofs::OnePrints::one_readings, crate::proofs::OnePrints::pages_exactly))]
+pub fn front_page(
+    name: &str,
+    input: &[u8],
+    heap: Global,
+) -> Result<Result<Vec<u8>, String>, AllocError>
     ensures printed { IfOk result (λ a. Printed name.now input.now (output a)) }
     ensures one_reading { OneReadings }
     ensures pages_exactly { PagesExactly }
@@ -25,7 +29,7 @@ pub fn front_page(name: &str, input: &[u8], heap: Global) -> Result<Answer, Allo
                 line: 0,
                 fault: Fault::UnknownList,
             };
-            Ok(Answer::NoPage(refusal.text(heap)?))
+            Ok(Err(refusal.to_string(heap)?))
         }
     }
 }

@@ -1,8 +1,8 @@
-ghost use Rattle.std.specs.Prelude.{◌≡◌};
-ghost use Rattle.prices.specs.declared.refusal.Stop.TheVariants.{Memory};
+ghost use Rattle.std.specs.Prelude.{Some};
+ghost use Rattle.prices.specs.Refusals.{fault_text, refusal_text};
 
 use digits::ReadFault;
-use std::alloc::AllocError;
+use std::fmt;
 
 // Why no page is printed.
 #[derive(Clone, Copy)]
@@ -13,6 +13,20 @@ pub enum Fault {
     UnknownList,
 }
 
+impl fmt::Display for Fault {
+    ghost output = { λ fault. Some (fault_text fault) };
+
+    fn fmt<W: fmt::Write>(&self, f: &mut fmt::Formatter<W>) -> fmt::Result {
+        match self {
+            Fault::Line(ReadFault::Malformed) => write!(f, "malformed"),
+            Fault::Line(ReadFault::TooLarge) => write!(f, "number too large"),
+            Fault::NoNewline => write!(f, "no newline at its end"),
+            Fault::TooManyBytes => write!(f, "more than 16384 bytes"),
+            Fault::UnknownList => write!(f, "unknown list, not costs or zones"),
+        }
+    }
+}
+
 // Why, and at which line. Lines count from 1; what is wrong with no line in particular is at line 0.
 #[derive(Clone, Copy)]
 pub struct Refusal {
@@ -20,25 +34,13 @@ pub struct Refusal {
     pub fault: Fault,
 }
 
-// What ends the work early.
-#[derive(Clone, Copy)]
-pub enum Stop {
-    Memory,
-    Refused(Refusal),
-}
+// The refusal in one line.
+impl fmt::Display for Refusal {
+    ghost output = { λ refusal. Some (refusal_text refusal) };
 
-impl From<AllocError> for Stop {
-    ghost from_gives = { λ _ r. r ≡ Memory };
-
-    fn from(_e: AllocError) -> Stop {
-        Stop::Memory
-    }
-}
-
-impl<T: Drop> From<std::alloc::AllocFailed<T>> for Stop {
-    ghost from_gives = { λ _ r. r ≡ Memory };
-
-    fn from(_e: std::alloc::AllocFailed<T>) -> Stop {
-        Stop::Memory
+    fn fmt<W: fmt::Write>(&self, f: &mut fmt::Formatter<W>) -> fmt::Result {
+        let line = self.line;
+        let fault = self.fault;
+        writeln!(f, "line {line}: {fault}")
     }
 }

@@ -29,9 +29,7 @@ impl Priced for Zones {
         }
         let mut bits: u64 = 0;
         for b in bytes {
-            let Some(digit) = hex_value(*b) else {
-                return Err(ReadFault::Malformed);
-            };
+            let digit = hex_value(*b).ok_or(ReadFault::Malformed)?;
             bits = bits * 16 + digit;
         }
         Ok(Zones { bits })

@@ -2,6 +2,7 @@ mod Texts
 mod LineReads
 mod LineRecords
 mod RecordLists
+mod Results
 mod Outcomes
 mod Printing
 pub mod Promising

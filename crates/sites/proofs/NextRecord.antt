@@ -4,13 +4,14 @@ use Rattle.std.specs.List.{flat_map}
 use Rattle.std.proofs.lemmas.List.{append_assoc, append-nil, length_push}
 use Rattle.std.proofs.lemmas.Bool.{cond-false, le-ltb}
 use Rattle.floors.specs.declared.lane_row.LaneRow.{LaneRow}
+use Rattle.sites.specs.declared.rank.Rank.TheVariants.{Tariff as AfterTariff}
 use Rattle.sites.specs.declared.reading.Reading.{Reading}
 use Rattle.sites.specs.declared.records.Record.{Record}
 use Rattle.sites.specs.declared.records.Record.TheVariants.{Horizon, Places, Lane, BothLanes, Tariff, Cart}
 use Rattle.sites.specs.declared.refusal.SiteFault.{SiteFault}
 use Rattle.sites.specs.declared.rooms.Rooms.{Rooms}
 use Rattle.sites.specs.Sites.{SiteData, back, cost_of, horizons_in, places_in, lanes_in, tariff_in, carts_in, said, rank, last_rank, lane_fault, draft_fault, first_fault, lacking}
-use Rattle.sites.specs.Holding.{Holds, with_lane, with_cost, with_cart, LaneTaken, CartTaken, Keeps, Took}
+use Rattle.sites.specs.Holding.{Holds, with_lane, with_cost, with_cart, LaneTaken, CartTaken, Keeps, Took, rank_number}
 use Rattle.sites.proofs.RecordLists.{part_push, last_push}
 
 -- what a record adds nothing to stays as it was
@@ -77,13 +78,13 @@ last_few (r ∷ (s ∷ rs)) = last_few (s ∷ rs)
 
 module _ (rooms : Rooms) (before : List Record) (was : Reading) (k : Keeps before was) where
   -- kept after a record of this rank, which says this
-  keeps_next : (next : Record) (s : SiteData) (r : Reading) → 2 ≤ rank next → said (before ++ next ∷ []) ≡ s → Holds s r → r.rank ≡ rank next → Keeps (before ++ next ∷ []) r
+  keeps_next : (next : Record) (s : SiteData) (r : Reading) → 2 ≤ rank next → said (before ++ next ∷ []) ≡ s → Holds s r → rank_number r.rank ≡ rank next → Keeps (before ++ next ∷ []) r
   keeps_next next s r low e h same =
       let last = last_push before next in
       let P : SiteData → Type 0 = λ t. Holds t r in
       record { holds = subst P (sym e) h; ranked = same ∙ sym last; begun = omega arith }
 
-  pub lane_took : (row : LaneRow) → was.rank ≤ 3 → was.lanes < rooms.lanes → (r : Result Reading SiteFault) → ((s : SiteData) → Holds s was → LaneTaken s row r) → IfOk r (λ x. (x.lanes ≡ was.lanes + 1) × (x.rank ≡ 3)) → Took rooms before (Lane row) r
+  pub lane_took : (row : LaneRow) → rank_number was.rank ≤ 3 → was.site.lanes < rooms.lanes → (r : Result Reading SiteFault) → ((s : SiteData) → Holds s was → LaneTaken s row r) → IfOk r (λ x. (x.site.lanes ≡ was.site.lanes + 1) × (rank_number x.rank ≡ 3)) → Took rooms before (Lane row) r
   lane_took row low room (Ok r) taken kept' =
       let t = taken (said before) k.holds in
       let rows = k.holds.lanes in
@@ -97,13 +98,13 @@ module _ (rooms : Rooms) (before : List Record) (was : Reading) (k : Keeps befor
       let ranked = k.ranked in
       inr ((k.begun, omega arith), enough rooms.lanes _ 1 _ (omega arith) ∙ taken (said before) k.holds)
 
-  pub both_first_refused : (row : LaneRow) → was.rank ≤ 3 → was.lanes + 2 ≤ rooms.lanes → (f : SiteFault) → ((s : SiteData) → Holds s was → LaneTaken s row (Err f)) → Took rooms before (BothLanes row) (Err f)
+  pub both_first_refused : (row : LaneRow) → rank_number was.rank ≤ 3 → was.site.lanes + 2 ≤ rooms.lanes → (f : SiteFault) → ((s : SiteData) → Holds s was → LaneTaken s row (Err f)) → Took rooms before (BothLanes row) (Err f)
   both_first_refused row low room f taken =
       let rows = k.holds.lanes in
       let ranked = k.ranked in
       inr ((k.begun, omega arith), enough rooms.lanes _ 2 _ (omega arith) ∙ ap (λ o. first_fault o (lane_fault (said before).places ((said before).lanes ++ row ∷ []) (back row))) (taken (said before) k.holds))
 
-  pub both_took : (row : LaneRow) → was.rank ≤ 3 → was.lanes + 2 ≤ rooms.lanes → (one : Reading) → ((s : SiteData) → Holds s was → LaneTaken s row (Ok one)) → (r : Result Reading SiteFault) → ((s : SiteData) → Holds s one → LaneTaken s (back row) r) → IfOk r (λ x. (x.lanes ≡ one.lanes + 1) × (x.rank ≡ 3)) → Took rooms before (BothLanes row) r
+  pub both_took : (row : LaneRow) → rank_number was.rank ≤ 3 → was.site.lanes + 2 ≤ rooms.lanes → (one : Reading) → ((s : SiteData) → Holds s was → LaneTaken s row (Ok one)) → (r : Result Reading SiteFault) → ((s : SiteData) → Holds s one → LaneTaken s (back row) r) → IfOk r (λ x. (x.site.lanes ≡ one.site.lanes + 1) × (rank_number x.rank ≡ 3)) → Took rooms before (BothLanes row) r
   both_took row low room one first (Ok r) taken kept' =
       let rows = k.holds.lanes in
       let ranked = k.ranked in
@@ -123,7 +124,7 @@ module _ (rooms : Rooms) (before : List Record) (was : Reading) (k : Keeps befor
         enough rooms.lanes _ 2 _ (omega arith) ∙ ap (λ o. first_fault o (lane_fault (said before).places ((said before).lanes ++ row ∷ []) (back row))) t.0 ∙ u,
       )
 
-  pub line_took : (total worst : ℕ) → was.rank ≤ 4 → was.tariff < rooms.tariff → Took rooms before (Tariff total worst) (Ok (record { draft = was.draft; floor = was.floor; carts = was.carts; lanes = was.lanes; tariff = was.tariff + 1; rank = 4 }))
+  pub line_took : (total worst : ℕ) → rank_number was.rank ≤ 4 → was.site.tariff < rooms.tariff → Took rooms before (Tariff total worst) (Ok (record { site = record { draft = was.site.draft; floor = was.site.floor; lanes = was.site.lanes; tariff = was.site.tariff + 1 }; carts = was.carts; rank = AfterTariff }))
   line_took total worst low room =
       let h = k.holds in
       let rows = k.holds.tariff in
@@ -144,7 +145,7 @@ module _ (rooms : Rooms) (before : List Record) (was : Reading) (k : Keeps befor
             refl,
       )
 
-  pub cart_took : (start goal : ℕ) → (r : Result Reading SiteFault) → ((s : SiteData) → Holds s was → CartTaken rooms.carts s start goal r) → IfOk r (λ x. x.rank ≡ 5) → Took rooms before (Cart start goal) r
+  pub cart_took : (start goal : ℕ) → (r : Result Reading SiteFault) → ((s : SiteData) → Holds s was → CartTaken rooms.carts s start goal r) → IfOk r (λ x. rank_number x.rank ≡ 5) → Took rooms before (Cart start goal) r
   cart_took start goal (Ok r) taken kept' =
       let t = taken (said before) k.holds in
       ((k.begun, last_few before), ap draft_fault t.0, keeps_next (Cart start goal) _ r (omega arith) (said-cart before start goal) t.1 kept')

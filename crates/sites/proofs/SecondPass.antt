@@ -1,7 +1,7 @@
 -- The second reading of a site, which writes the rows of its lanes and tariff lines. Assumes nothing.
-use Rattle.std.proofs.Common.{◌≡◌, ℕ, ◌+◌, ◌-◌, ◌≤◌, List, [], ◌∷◌, ◌++◌, length, take, drop, sym, refl, ap, ◌∙◌, subst, arith}
+use Rattle.std.proofs.Common.{◌≡◌, ℕ, ◌+◌, ◌≤◌, List, [], ◌∷◌, ◌++◌, length, drop, sym, refl, ap, ◌∙◌, subst, arith}
 use Rattle.std.specs.List.{flat_map, AllByRecursion}
-use Rattle.std.proofs.lemmas.List.{append_assoc, append-nil, drop-drop, length-append, length-drop, take_rest}
+use Rattle.std.proofs.lemmas.List.{append_assoc, append-nil, length-append, length-drop}
 use Rattle.costs.specs.declared.pair.Pair.{Pair}
 use Rattle.costs.specs.declared.total.Total.{Total}
 use Rattle.costs.specs.declared.worst.Worst.{Worst}
@@ -20,17 +20,16 @@ pub record TableWritten {X : Type 0} (part : Record → List X) (done : List Rec
   pub count : n ≡ length (flat_map part done)
   pub rows : now' ≡ filled (flat_map part done) was
 
-pub record Passed (bytes : List ℕ) (at n m : ℕ) (lanes₀ lanes : List LaneRow) (tariff₀ tariff : List (Pair Total Worst)) : Type 0 where
+pub record Passed (bytes rest : List ℕ) (n m : ℕ) (lanes₀ lanes : List LaneRow) (tariff₀ tariff : List (Pair Total Worst)) : Type 0 where
   pub site : Writable bytes (length lanes₀) (length tariff₀)
   pub done : List Record
   pub left : List Record
   pub whole : done ++ left ≡ site.records
-  pub text : drop at bytes ≡ records_text left
-  pub inside : at ≤ length bytes
+  pub text : rest ≡ records_text left
   pub lane_table : TableWritten lanes_in done lanes₀ lanes n
   pub tariff_table : TableWritten tariff_in done tariff₀ tariff m
 
-pub none_passed : (bytes : List ℕ) (lanes : List LaneRow) (tariff : List (Pair Total Worst)) → Writable bytes (length lanes) (length tariff) → Passed bytes 0 0 0 lanes lanes tariff tariff
+pub none_passed : (bytes : List ℕ) (lanes : List LaneRow) (tariff : List (Pair Total Worst)) → Writable bytes (length lanes) (length tariff) → Passed bytes bytes 0 0 lanes lanes tariff tariff
 none_passed bytes lanes tariff w =
     record {
       site = w;
@@ -38,7 +37,6 @@ none_passed bytes lanes tariff w =
       left = w.records;
       whole = refl;
       text = w.text;
-      inside = omega arith;
       lane_table = record { count = refl; rows = refl };
       tariff_table = record { count = refl; rows = refl };
     }
@@ -52,6 +50,12 @@ room_for part done left all r n rows whole count room =
     let d = length-append (part r) (flat_map part left) in
     omega arith
 
+-- a table stays as long as it was
+table_long : {X : Type 0} (part : Record → List X) (done : List Record) (was now' : List X) (n : ℕ) → TableWritten part done was now' n → n ≤ length was → length now' ≡ length was
+table_long part done was now' n t room =
+    let rows = flat_map part done in
+    omega (arith, t.count, ap length t.rows, length-append rows (drop (length rows) was), length-drop (length rows) was)
+
 row_more : {X : Type 0} (part : Record → List X) (done : List Record) (r : Record) (was now' next : List X) (n k : ℕ) → TableWritten part done was now' n → next ≡ put now' n (part r) → k ≡ n + length (part r) → TableWritten part (done ++ r ∷ []) was next k
 row_more part done r was now' next n k t e f =
     let more = part_push part done r in
@@ -64,70 +68,66 @@ all_right : (done left : List Record) → AllByRecursion Fitting (done ++ left) 
 all_right [] left h = h
 all_right (r ∷ done) left h = all_right done left h.1
 
-module _ (bytes : List ℕ) (at n m : ℕ) (lanes₀ lanes : List LaneRow) (tariff₀ tariff : List (Pair Total Worst)) where
-  abbrev slice : List ℕ
-  slice = take (length bytes - at) (drop at bytes)
+module _ (bytes rest : List ℕ) (n m : ℕ) (lanes₀ lanes : List LaneRow) (tariff₀ tariff : List (Pair Total Worst)) (p : Passed bytes rest n m lanes₀ lanes tariff₀ tariff) where
+  left_fitting : AllByRecursion Fitting p.left
+  left_fitting = all_right p.done p.left (subst (λ (rs : List Record). AllByRecursion Fitting rs) (sym p.whole) p.site.fitting)
 
   -- the next record, where one is read: the first of those left
-  pub record Next (p : Passed bytes at n m lanes₀ lanes tariff₀ tariff) (r : Record) (k : ℕ) : Type 0 where
+  pub record Next (r : Record) (below : List ℕ) : Type 0 where
     pub others : List Record
     pub whole : p.done ++ r ∷ others ≡ p.site.records
-    pub text : drop (at + k) bytes ≡ records_text others
+    pub text : below ≡ records_text others
 
-  left_fitting : (p : Passed bytes at n m lanes₀ lanes tariff₀ tariff) → AllByRecursion Fitting p.left
-  left_fitting p = all_right p.done p.left (subst (λ (rs : List Record). AllByRecursion Fitting rs) (sym p.whole) p.site.fitting)
+  module _ (r : Record) (below : List ℕ) (f : Front rest r below) where
+    next_is : Next r below
+    next_is = go p.left p.whole p.text left_fitting
+      where
+        go : (left : List Record) → p.done ++ left ≡ p.site.records → rest ≡ records_text left → AllByRecursion Fitting left → Next r below
+        go [] w t h = let e = sym t ∙ f.text in let z : ◌≡◌ {A = ℕ} 0 1 = cc in absurd (omega arith)
+        go (s ∷ left) w t h =
+            let same = record_same r s below (records_text left) f.fitting h.0 (sym f.text ∙ t) in
+            record {
+              others = left;
+              whole = ap (λ q. p.done ++ q ∷ left) same.0 ∙ w;
+              text = same.1;
+            }
 
-  pub next_is : (p : Passed bytes at n m lanes₀ lanes tariff₀ tariff) (r : Record) (k : ℕ) → Front slice r k → Next p r k
-  next_is p r k f = go p.left p.whole p.text (left_fitting p)
-    where
-      rest : drop at bytes ≡ record_text r ++ drop (at + k) bytes
-      rest = sym (take_rest bytes at) ∙ f.text ∙ ap (λ t. record_text r ++ t) (ap (drop k) (take_rest bytes at) ∙ drop-drop k at bytes)
+    pub lanes_room : n + length (lanes_in r) ≤ length lanes
+    lanes_room =
+        let room = room_for lanes_in p.done next_is.others _ r n _ next_is.whole p.lane_table.count p.site.lanes_room in
+        omega (arith, table_long lanes_in p.done lanes₀ lanes n p.lane_table (omega arith))
 
-      go : (left : List Record) → p.done ++ left ≡ p.site.records → drop at bytes ≡ records_text left → AllByRecursion Fitting left → Next p r k
-      go [] w t h = let e = sym t ∙ rest in let z : ◌≡◌ {A = ℕ} 0 1 = cc in absurd (omega arith)
-      go (s ∷ left) w t h =
-          let same = record_same r s (drop (at + k) bytes) (records_text left) f.fitting h.0 (sym rest ∙ t) in
-          record {
-            others = left;
-            whole = ap (λ q. p.done ++ q ∷ left) same.0 ∙ w;
-            text = same.1;
-          }
+    pub tariff_room : m + length (tariff_in r) ≤ length tariff
+    tariff_room =
+        let room = room_for tariff_in p.done next_is.others _ r m _ next_is.whole p.tariff_table.count p.site.tariff_room in
+        omega (arith, table_long tariff_in p.done tariff₀ tariff m p.tariff_table (omega arith))
 
-  module _ (p : Passed bytes at n m lanes₀ lanes tariff₀ tariff) (r : Record) (k : ℕ) (f : Front slice r k) where
-    pub lanes_room : n + length (lanes_in r) ≤ length lanes₀
-    lanes_room = let x = next_is p r k f in room_for lanes_in p.done x.others _ r n _ x.whole p.lane_table.count p.site.lanes_room
-
-    pub tariff_room : m + length (tariff_in r) ≤ length tariff₀
-    tariff_room = let x = next_is p r k f in room_for tariff_in p.done x.others _ r m _ x.whole p.tariff_table.count p.site.tariff_room
-
-    pub next_passed : (lanes' : List LaneRow) (tariff' : List (Pair Total Worst)) (n' m' : ℕ) → lanes' ≡ put lanes n (lanes_in r) → n' ≡ n + length (lanes_in r) → tariff' ≡ put tariff m (tariff_in r) → m' ≡ m + length (tariff_in r) → Passed bytes (at + k) n' m' lanes₀ lanes' tariff₀ tariff'
+    pub next_passed : (lanes' : List LaneRow) (tariff' : List (Pair Total Worst)) (n' m' : ℕ) → lanes' ≡ put lanes n (lanes_in r) → n' ≡ n + length (lanes_in r) → tariff' ≡ put tariff m (tariff_in r) → m' ≡ m + length (tariff_in r) → Passed bytes below n' m' lanes₀ lanes' tariff₀ tariff'
     next_passed lanes' tariff' n' m' a b c d =
-        let x = next_is p r k f in
-        let i = p.inside in
-        let j = f.inside in
         record {
           site = p.site;
           done = p.done ++ r ∷ [];
-          left = x.others;
-          whole = append_assoc p.done (r ∷ []) x.others ∙ x.whole;
-          text = x.text;
-          inside = omega (arith, ap length (take_rest bytes at), length-drop at bytes);
+          left = next_is.others;
+          whole = append_assoc p.done (r ∷ []) next_is.others ∙ next_is.whole;
+          text = next_is.text;
           lane_table = row_more lanes_in p.done r lanes₀ lanes lanes' n n' p.lane_table a b;
           tariff_table = row_more tariff_in p.done r tariff₀ tariff tariff' m m' p.tariff_table c d;
         }
 
   -- where no record is read, all are done
-  pub all_done : (p : Passed bytes at n m lanes₀ lanes tariff₀ tariff) → ((r : Record) (more : List ℕ) → Fitting r → slice ≡ record_text r ++ more → ⊥) → p.done ≡ p.site.records
-  all_done p none = go p.left p.whole p.text (left_fitting p)
-    where
-      go : (left : List Record) → p.done ++ left ≡ p.site.records → drop at bytes ≡ records_text left → AllByRecursion Fitting left → p.done ≡ p.site.records
-      go [] w t h = sym (append-nil p.done) ∙ w
-      go (s ∷ left) w t h = absurd (none s (records_text left) h.0 (take_rest bytes at ∙ t))
+  module _ (none : (r : Record) (more : List ℕ) → Fitting r → rest ≡ record_text r ++ more → ⊥) where
+    all_done : p.done ≡ p.site.records
+    all_done = go p.left p.whole p.text left_fitting
+      where
+        go : (left : List Record) → p.done ++ left ≡ p.site.records → rest ≡ records_text left → AllByRecursion Fitting left → p.done ≡ p.site.records
+        go [] w t h = sym (append-nil p.done) ∙ w
+        go (s ∷ left) w t h = absurd (none s (records_text left) h.0 t)
 
-  pub written : (p : Passed bytes at n m lanes₀ lanes tariff₀ tariff) → p.done ≡ p.site.records → ((rs : List Record) → RowsWritten lanes_in rs bytes lanes₀ lanes) × ((rs : List Record) → RowsWritten tariff_in rs bytes tariff₀ tariff)
-  written p all =
-      let same : (rs : List Record) → AllByRecursion Fitting rs → bytes ≡ records_text rs → p.done ≡ rs =
-      λ rs h e. all ∙ records_same p.site.records rs p.site.fitting h (sym p.site.text ∙ e) in (
-        (λ rs h e. p.lane_table.rows ∙ ap (λ (qs : List Record). filled (flat_map lanes_in qs) lanes₀) (same rs h e)),
-        (λ rs h e. p.tariff_table.rows ∙ ap (λ (qs : List Record). filled (flat_map tariff_in qs) tariff₀) (same rs h e)),
-      )
+    same_done : (rs : List Record) → AllByRecursion Fitting rs → bytes ≡ records_text rs → p.done ≡ rs
+    same_done rs h e = all_done ∙ records_same p.site.records rs p.site.fitting h (sym p.site.text ∙ e)
+
+    pub lanes_written : (rs : List Record) → RowsWritten lanes_in rs bytes lanes₀ lanes
+    lanes_written rs h e = p.lane_table.rows ∙ ap (λ (qs : List Record). filled (flat_map lanes_in qs) lanes₀) (same_done rs h e)
+
+    pub tariff_written : (rs : List Record) → RowsWritten tariff_in rs bytes tariff₀ tariff
+    tariff_written rs h e = p.tariff_table.rows ∙ ap (λ (qs : List Record). filled (flat_map tariff_in qs) tariff₀) (same_done rs h e)

@@ -4,6 +4,7 @@ mod bodies;
 mod heads;
 mod lines;
 mod promises;
+mod rank;
 mod reader;
 mod reading;
 pub mod records;

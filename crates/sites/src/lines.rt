@@ -1,6 +1,8 @@
-ghost use Rattle.std.specs.Prelude.{◌≤◌, [], ◌∷◌, decimal};
+ghost use Rattle.std.specs.Prelude.{◌≡◌, ◌==◌, ◌≤◌, length, decimal};
+ghost use Rattle.std.specs.Iterator.{at_most};
+ghost use Rattle.std.specs.List.{AllByRecursion, position_or_len};
 ghost use Rattle.sites.specs.Records.{Fitting, line_text, numbers_text};
-ghost use Rattle.sites.specs.Reading.{ReadAs, ReadNumber, ReadFirst, lane_numbers};
+ghost use Rattle.sites.specs.Reading.{ReadAs, ReadNumber, ReadFirst};
 
 use crate::records::Record;
 use digits::{read_number, split_once};
@@ -10,62 +12,39 @@ use floors::LaneRow;
 fn number(bytes: &[u8]) -> Option<u16>
     ensures { ReadAs decimal (λ n. n ≤ 65535) bytes.now result }
 {
-    match read_number(bytes, 65_535) {
-        Ok(value) => Some(value as u16),
-        Err(_) => None,
-    }
+    let value = read_number(bytes, 65_535).ok()?;
+    Some(value as u16)
 }
 
-// A number between two spaces, and the bytes from the second space on.
+// Where the first space stands, or where the bytes end.
+fn space_or_end(bytes: &[u8]) -> usize
+    ensures within { result ≤ length bytes.now }
+    ensures first { result ≡ position_or_len (λ b. b == 32) bytes.now }
+{
+    bytes.iter().position(|b| *b == b' ').unwrap_or(bytes.len())
+}
+
+// The number between a space and the next one or the end, and the bytes from there on.
 fn next_number(bytes: &[u8]) -> Option<(u16, &[u8])>
     ensures { ReadNumber bytes.now result }
 {
-    let [b' ', rest @ ..] = bytes else {
-        return None;
-    };
-    let Some((digits, _)) = split_once(rest, b' ') else {
-        return None;
-    };
-    let Some(value) = number(digits) else {
-        return None;
-    };
-    Some((value, &rest[digits.len()..]))
+    let written = bytes.strip_prefix(b" ")?;
+    let (digits, rest) = written.split_at(space_or_end(written));
+    Some((number(digits)?, rest))
 }
 
-// One number after a space.
-fn one(bytes: &[u8]) -> Option<u16>
-    ensures { ReadAs (λ n. numbers_text (n ∷ [])) (λ n. n ≤ 65535) bytes.now result }
+// N numbers, each after a space.
+fn numbers<const N: usize>(bytes: &[u8]) -> Option<[u16; N]>
+    ensures { ReadAs numbers_text (λ ns. (length ns ≡ N) × AllByRecursion (λ n. n ≤ 65535) ns) bytes.now result }
 {
-    let [b' ', digits @ ..] = bytes else {
-        return None;
-    };
-    number(digits)
-}
-
-// Two numbers, each after a space.
-fn two(bytes: &[u8]) -> Option<(u16, u16)>
-    ensures { ReadAs (λ p. numbers_text (p.0 ∷ (p.1 ∷ []))) (λ p. (p.0 ≤ 65535) × (p.1 ≤ 65535)) bytes.now result }
-{
-    let Some((first, rest)) = next_number(bytes) else {
-        return None;
-    };
-    let Some(second) = one(rest) else {
-        return None;
-    };
-    Some((first, second))
-}
-
-// The three numbers of a lane, each after a space.
-fn lane(bytes: &[u8]) -> Option<LaneRow>
-    ensures { ReadAs (λ l. numbers_text (lane_numbers l)) (λ l. (l.from ≤ 65535) × (l.to ≤ 65535) × (l.line ≤ 65535)) bytes.now result }
-{
-    let Some((from, rest)) = next_number(bytes) else {
-        return None;
-    };
-    let Some((to, line)) = two(rest) else {
-        return None;
-    };
-    Some(LaneRow { from, to, line })
+    let mut numbers = [0; N];
+    let mut rest = bytes;
+    for number in &mut numbers {
+        let (value, below) = next_number(rest)?;
+        *number = value;
+        rest = below;
+    }
+    if rest.is_empty() { Some(numbers) } else { None }
 }
 
 // The record that a line holds, its newline left out.
@@ -73,43 +52,52 @@ fn read_line(line: &[u8]) -> Option<Record>
     ensures { ReadAs line_text Fitting line.now result }
 {
     match line {
-        [b'H', b'Z', rest @ ..] => match one(rest) {
-            Some(horizon) => Some(Record::Horizon(horizon)),
-            None => None,
-        },
-        [b'P', b'L', rest @ ..] => match one(rest) {
-            Some(places) => Some(Record::Places(places)),
-            None => None,
-        },
-        [b'L', b'N', rest @ ..] => match lane(rest) {
-            Some(row) => Some(Record::Lane(row)),
-            None => None,
-        },
-        [b'L', b'B', rest @ ..] => match lane(rest) {
-            Some(row) => Some(Record::BothLanes(row)),
-            None => None,
-        },
-        [b'T', b'F', rest @ ..] => match two(rest) {
-            Some((total, worst)) => Some(Record::Tariff { total, worst }),
-            None => None,
-        },
-        [b'C', b'T', rest @ ..] => match two(rest) {
-            Some((start, goal)) => Some(Record::Cart { start, goal }),
-            None => None,
-        },
+        [b'H', b'Z', rest @ ..] => {
+            let [horizon] = numbers::<1>(rest)?;
+            Some(Record::Horizon(horizon))
+        }
+        [b'P', b'L', rest @ ..] => {
+            let [places] = numbers::<1>(rest)?;
+            Some(Record::Places(places))
+        }
+        [b'L', b'N', rest @ ..] => {
+            let [from, to, line] = numbers::<3>(rest)?;
+            Some(Record::Lane(LaneRow { from, to, line }))
+        }
+        [b'L', b'B', rest @ ..] => {
+            let [from, to, line] = numbers::<3>(rest)?;
+            Some(Record::BothLanes(LaneRow { from, to, line }))
+        }
+        [b'T', b'F', rest @ ..] => {
+            let [total, worst] = numbers::<2>(rest)?;
+            Some(Record::Tariff { total, worst })
+        }
+        [b'C', b'T', rest @ ..] => {
+            let [start, goal] = numbers::<2>(rest)?;
+            Some(Record::Cart { start, goal })
+        }
         _ => None,
     }
 }
 
-// The record at the front of the bytes, and how many bytes long it is.
-pub(crate) fn first_record(bytes: &[u8]) -> Option<(Record, usize)>
-    ensures { ReadFirst bytes.now result }
-{
-    let Some((line, below)) = split_once(bytes, b'\n') else {
-        return None;
-    };
-    let Some(record) = read_line(line) else {
-        return None;
-    };
-    Some((record, bytes.len() - below.len()))
+// The records of a text, up to the first line that holds none.
+#[derive(Drop)]
+pub struct Records<'a> {
+    // the bytes below the records that were read
+    pub rest: &'a [u8],
+}
+
+impl Iterator for Records<'_> {
+    type Item = Record;
+
+    ghost next_gives = { λ s r t. ReadFirst s.rest.now r t.rest.now };
+
+    ghost remaining = { λ s. at_most (length s.rest.now) };
+
+    fn next(&mut self) -> Option<Record> {
+        let (line, below) = split_once(self.rest, b'\n')?;
+        let record = read_line(line)?;
+        self.rest = below;
+        Some(record)
+    }
 }

@@ -2,16 +2,12 @@ ghost use Rattle.sites.specs.Promises.{FormatStands, ReadingStands};
 ghost use Rattle.sites.specs.declared.rooms.Rooms.{Rooms};
 
 // A text says one site at most, and what is printed of a site says that site.
-pub fn format_stands() -> u8
+pub fn format_stands()
     ensures { FormatStands }
-{
-    0
-}
+{}
 
 // Whatever tables are lent: what is accepted is just the sites of which no record is refused, each text is accepted or refused in one way
 // only, and a printed site is read back.
-pub fn reading_stands() -> u8
+pub fn reading_stands()
     ensures { (rooms : Rooms) → ReadingStands rooms }
-{
-    0
-}
+{}

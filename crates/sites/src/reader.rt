@@ -1,7 +1,6 @@
 ghost use Rattle.sites.specs.Reader.{SiteRead, tables};
 
 use crate::bodies::read_records;
-use crate::reading::Reading;
 use crate::refusal::{SiteFault, SiteRefusal};
 use crate::rooms::Rooms;
 use crate::site::Site;
@@ -23,36 +22,16 @@ pub fn read_site(
     ensures { SiteRead bytes.now (tables lanes.old tariff.old carts.old) (tables lanes.new tariff.new carts.new) result }
 {
     if bytes.len() > MOST_BYTES {
-        return Err(SiteRefusal {
-            line: 0,
-            fault: SiteFault::TooLong,
-        });
+        return Err(SiteFault::TooLong.at(0));
     }
     let rooms = Rooms {
         lanes: lanes.len(),
         tariff: tariff.len(),
         carts: carts.len(),
     };
-    match read_records(bytes, rooms) {
-        Ok(reading) => {
-            let count = reading.draft.carts() as usize;
-            write_rows(bytes, lanes, tariff);
-            carts[0..count].copy_from_slice(&reading.carts[0..count]);
-            let Reading {
-                draft,
-                floor,
-                carts: _,
-                lanes,
-                tariff,
-                rank: _,
-            } = reading;
-            Ok(Site {
-                draft,
-                floor,
-                lanes,
-                tariff,
-            })
-        }
-        Err(refusal) => Err(refusal),
-    }
+    let reading = read_records(bytes, rooms)?;
+    let count = reading.site.draft.carts() as usize;
+    write_rows(bytes, lanes, tariff);
+    carts[..count].copy_from_slice(&reading.carts[..count]);
+    Ok(reading.site)
 }

@@ -1,16 +1,14 @@
-use carts::{Cart, Draft};
-use floors::LaneFloor;
+use crate::rank::Rank;
+use crate::site::Site;
+use carts::Cart;
 
 mod taking;
 
 // What the records so far say, kept until the last one is read; the lanes and the tariff lines are only counted.
 #[derive(Drop)]
 pub struct Reading {
-    pub draft: Draft,
-    pub floor: LaneFloor,
+    pub site: Site,
     pub carts: [Cart; 6],
-    pub lanes: usize,
-    pub tariff: usize,
-    // the last record's rank
-    pub rank: u8,
+    // the last record's
+    pub rank: Rank,
 }

@@ -1,5 +1,6 @@
 ghost use Rattle.std.specs.Prelude.{◌≡◌};
 ghost use Rattle.sites.specs.Refusals.{refusal_numbers};
+ghost use Rattle.sites.specs.declared.refusal.SiteFault.TheVariants.{Draft, Floor};
 
 use carts::DraftRefusal;
 use floors::FloorRefusal;
@@ -16,6 +17,31 @@ pub enum SiteFault {
     // the record is refused by its call
     Draft(DraftRefusal),
     Floor(FloorRefusal),
+}
+
+impl From<DraftRefusal> for SiteFault {
+    ghost from_gives = { λ why fault. fault ≡ Draft why };
+
+    fn from(why: DraftRefusal) -> SiteFault {
+        SiteFault::Draft(why)
+    }
+}
+
+impl From<FloorRefusal> for SiteFault {
+    ghost from_gives = { λ why fault. fault ≡ Floor why };
+
+    fn from(why: FloorRefusal) -> SiteFault {
+        SiteFault::Floor(why)
+    }
+}
+
+impl SiteFault {
+    // The refusal of this line.
+    pub fn at(self, line: u16) -> SiteRefusal
+        ensures { result ≡ record { line = line; fault = self } }
+    {
+        SiteRefusal { line, fault: self }
+    }
 }
 
 // The first line that is not read, counted from 1, and why; too long a site has line 0.

@@ -1,70 +1,60 @@
-ghost use Rattle.std.specs.Prelude.{◌≡◌, ◌+◌, ◌≤◌, List, length};
+ghost use Rattle.std.specs.Prelude.{◌≡◌, ◌+◌, ◌<◌, ◌≤◌, List, length, slice_set};
 ghost use Rattle.sites.specs.Records.{Fitting};
 ghost use Rattle.sites.specs.Sites.{lanes_in, tariff_in};
 ghost use Rattle.sites.specs.Writing.{put, Writable, RowsWritten};
 
-use crate::lines::first_record;
-use crate::records::Record;
+use crate::lines::Records;
+use crate::records::{Record, back};
 use costs::{Pair, Total, Worst};
 use floors::LaneRow;
 
-// How many rows are written.
-#[derive(Clone, Copy)]
-pub struct Written {
-    pub lanes: usize,
-    pub tariff: usize,
+// A lent table, of which the first rows are written.
+#[derive(Drop)]
+pub struct Filling<'a, T> {
+    table: &'a mut [T],
+    count: usize,
+}
+
+impl<T: Copy> Filling<'_, T> {
+    // Writes the next row.
+    fn push(&mut self, row: T)
+        requires { self.old.count < length self.old.table.now }
+        ensures same_reference { self.new.table.ghost_name ≡ self.old.table.ghost_name }
+        ensures row { self.new.table.now ≡ slice_set self.old.table.now self.old.count row }
+        ensures count { self.new.count ≡ self.old.count + 1 }
+    {
+        self.table[self.count] = row;
+        self.count += 1;
+    }
 }
 
 // Writes the rows of one record after those that are written.
 fn write_record(
     record: Record,
-    lanes: &mut [LaneRow],
-    tariff: &mut [Pair<Total, Worst>],
-    written: Written,
-) -> Written
+    lanes: &mut Filling<LaneRow>,
+    tariff: &mut Filling<Pair<Total, Worst>>,
+)
     requires fitting { Fitting «record» }
-    requires lanes { written.lanes + length (lanes_in «record») ≤ length lanes.old }
-    requires tariff { written.tariff + length (tariff_in «record») ≤ length tariff.old }
-    ensures lanes { (lanes.new ≡ put lanes.old written.lanes (lanes_in «record»)) × (result.lanes ≡ written.lanes + length (lanes_in «record»)) }
-    ensures tariff { (tariff.new ≡ put tariff.old written.tariff (tariff_in «record»)) × (result.tariff ≡ written.tariff + length (tariff_in «record»)) }
+    requires lanes { lanes.old.count + length (lanes_in «record») ≤ length lanes.old.table.now }
+    requires tariff { tariff.old.count + length (tariff_in «record») ≤ length tariff.old.table.now }
+    ensures same_lanes { lanes.new.table.ghost_name ≡ lanes.old.table.ghost_name }
+    ensures same_tariff { tariff.new.table.ghost_name ≡ tariff.old.table.ghost_name }
+    ensures lanes { (lanes.new.table.now ≡ put lanes.old.table.now lanes.old.count (lanes_in «record»)) × (lanes.new.count ≡ lanes.old.count + length (lanes_in «record»)) }
+    ensures tariff { (tariff.new.table.now ≡ put tariff.old.table.now tariff.old.count (tariff_in «record»)) × (tariff.new.count ≡ tariff.old.count + length (tariff_in «record»)) }
 {
-    let Written {
-        lanes: lane,
-        tariff: line,
-    } = written;
     match record {
-        Record::Lane(row) => {
-            lanes[lane] = row;
-            Written {
-                lanes: lane + 1,
-                tariff: line,
-            }
-        }
+        Record::Lane(row) => lanes.push(row),
         Record::BothLanes(row) => {
-            lanes[lane] = row;
-            lanes[lane + 1] = LaneRow {
-                from: row.to,
-                to: row.from,
-                line: row.line,
-            };
-            Written {
-                lanes: lane + 2,
-                tariff: line,
-            }
+            lanes.push(row);
+            lanes.push(back(row));
         }
-        Record::Tariff { total, worst } => {
-            tariff[line] = Pair {
-                first: Total {
-                    value: total as u32,
-                },
-                second: Worst { value: worst },
-            };
-            Written {
-                lanes: lane,
-                tariff: line + 1,
-            }
-        }
-        Record::Horizon(_) | Record::Places(_) | Record::Cart { .. } => written,
+        Record::Tariff { total, worst } => tariff.push(Pair {
+            first: Total {
+                value: total as u32,
+            },
+            second: Worst { value: worst },
+        }),
+        Record::Horizon(_) | Record::Places(_) | Record::Cart { .. } => {}
     }
 }
 
@@ -74,13 +64,15 @@ pub(crate) fn write_rows(bytes: &[u8], lanes: &mut [LaneRow], tariff: &mut [Pair
     ensures lanes { (rs : List Record) → RowsWritten lanes_in rs bytes.now lanes.old lanes.new }
     ensures tariff { (rs : List Record) → RowsWritten tariff_in rs bytes.now tariff.old tariff.new }
 {
-    let mut written = Written {
-        lanes: 0,
-        tariff: 0,
+    let mut lanes = Filling {
+        table: lanes,
+        count: 0,
     };
-    let mut at = 0;
-    while let Some((record, length)) = first_record(&bytes[at..]) {
-        written = write_record(record, lanes, tariff, written);
-        at += length;
+    let mut tariff = Filling {
+        table: tariff,
+        count: 0,
+    };
+    for record in (Records { rest: bytes }) {
+        write_record(record, &mut lanes, &mut tariff);
     }
 }

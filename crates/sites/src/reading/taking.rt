@@ -1,19 +1,13 @@
 ghost use Rattle.std.specs.Prelude.{◌≡◌, ◌+◌, ◌^◌, ◌<◌, IfOk};
 ghost use Rattle.sites.specs.Sites.{SiteData};
-ghost use Rattle.sites.specs.Holding.{Holds, LaneTaken, CartTaken, TookNext};
+ghost use Rattle.sites.specs.Holding.{Holds, LaneTaken, CartTaken, TookNext, Admitted, rank_number};
 
+use crate::rank::Rank;
 use crate::reading::Reading;
-use crate::records::Record;
+use crate::records::{Record, back};
 use crate::refusal::SiteFault;
 use crate::rooms::Rooms;
 use floors::LaneRow;
-
-// The ranks of the records from the third on.
-const LANE: u8 = 3;
-
-const LINE: u8 = 4;
-
-const CART: u8 = 5;
 
 impl Reading {
     // One record more, if it may follow, has its rows, and is not refused by its call.
@@ -30,115 +24,72 @@ impl Reading {
         }
     }
 
+    // Whether a record of this rank may follow, and then whether the rows that it wants are left.
+    fn admit(&self, rank: Rank, left: usize, wanted: usize) -> Result<(), SiteFault>
+        ensures { Admitted (rank_number self.now.rank) (rank_number rank) left wanted result }
+    {
+        if self.rank > rank {
+            return Err(SiteFault::Misread);
+        }
+        if left < wanted {
+            return Err(SiteFault::NoRow);
+        }
+        Ok(())
+    }
+
     fn take_lane(self, row: LaneRow, rooms: Rooms) -> Result<Reading, SiteFault>
         ensures { TookNext self rooms (Record.Lane row) result }
     {
-        if self.rank > LANE {
-            return Err(SiteFault::Misread);
-        }
-        if self.lanes >= rooms.lanes {
-            return Err(SiteFault::NoRow);
-        }
+        self.admit(Rank::Lane, rooms.lanes.saturating_sub(self.site.lanes), 1)?;
         self.add_lane(row)
     }
 
     fn take_both(self, row: LaneRow, rooms: Rooms) -> Result<Reading, SiteFault>
         ensures { TookNext self rooms (Record.BothLanes row) result }
     {
-        if self.rank > LANE {
-            return Err(SiteFault::Misread);
-        }
-        if rooms.lanes.saturating_sub(self.lanes) < 2 {
-            return Err(SiteFault::NoRow);
-        }
-        match self.add_lane(row) {
-            Ok(reading) => reading.add_lane(LaneRow {
-                from: row.to,
-                to: row.from,
-                line: row.line,
-            }),
-            Err(fault) => Err(fault),
-        }
+        self.admit(Rank::Lane, rooms.lanes.saturating_sub(self.site.lanes), 2)?;
+        self.add_lane(row)?.add_lane(back(row))
     }
 
     // A lane that has a row.
-    fn add_lane(self, row: LaneRow) -> Result<Reading, SiteFault>
-        requires { self.lanes + 1 < 2 ^ 64 }
+    fn add_lane(mut self, row: LaneRow) -> Result<Reading, SiteFault>
+        requires { self.site.lanes + 1 < 2 ^ 64 }
         ensures taken { (s : SiteData) → Holds s self → LaneTaken s row result }
-        ensures kept { IfOk result (λ x. (x.lanes ≡ self.lanes + 1) × (x.rank ≡ 3)) }
+        ensures kept { IfOk result (λ x. (x.site.lanes ≡ self.site.lanes + 1) × (rank_number x.rank ≡ 3)) }
     {
-        let Reading {
-            draft,
-            mut floor,
-            carts,
-            lanes,
-            tariff,
-            rank: _,
-        } = self;
-        match floor.add_lane(row) {
-            Ok(()) => Ok(Reading {
-                draft,
-                floor,
-                carts,
-                lanes: lanes + 1,
-                tariff,
-                rank: LANE,
-            }),
-            Err(why) => Err(SiteFault::Floor(why)),
-        }
+        self.site.floor.add_lane(row)?;
+        self.site.lanes += 1;
+        self.rank = Rank::Lane;
+        Ok(self)
     }
 
-    fn take_line(self, total: u16, worst: u16, rooms: Rooms) -> Result<Reading, SiteFault>
+    fn take_line(mut self, total: u16, worst: u16, rooms: Rooms) -> Result<Reading, SiteFault>
         ensures { TookNext self rooms (Record.Tariff total worst) result }
     {
-        if self.rank > LINE {
-            return Err(SiteFault::Misread);
-        }
-        if self.tariff >= rooms.tariff {
-            return Err(SiteFault::NoRow);
-        }
-        let Reading {
-            draft,
-            floor,
-            carts,
-            lanes,
-            tariff,
-            rank: _,
-        } = self;
-        Ok(Reading {
-            draft,
-            floor,
-            carts,
-            lanes,
-            tariff: tariff + 1,
-            rank: LINE,
-        })
+        self.admit(
+            Rank::Tariff,
+            rooms.tariff.saturating_sub(self.site.tariff),
+            1,
+        )?;
+        self.site.tariff += 1;
+        self.rank = Rank::Tariff;
+        Ok(self)
     }
 
     // A cart in a table of so many rows.
-    fn add_cart(self, rows: usize, start: u16, goal: u16) -> Result<Reading, SiteFault>
+    fn add_cart(mut self, rows: usize, start: u16, goal: u16) -> Result<Reading, SiteFault>
         ensures taken { (s : SiteData) → Holds s self → CartTaken rows s start goal result }
-        ensures kept { IfOk result (λ x. x.rank ≡ 5) }
+        ensures kept { IfOk result (λ x. rank_number x.rank ≡ 5) }
     {
-        let Reading {
-            draft,
-            floor,
-            mut carts,
-            lanes,
-            tariff,
-            rank: _,
-        } = self;
         let room = rows.min(6);
-        match draft.add_cart(&mut carts[0..room], start, goal) {
-            Ok(draft) => Ok(Reading {
-                draft,
-                floor,
-                carts,
-                lanes,
-                tariff,
-                rank: CART,
-            }),
-            Err(refused) => Err(SiteFault::Draft(refused.1)),
-        }
+        let mut carts = self.carts;
+        self.site.draft = self
+            .site
+            .draft
+            .add_cart(&mut carts[..room], start, goal)
+            .map_err(|(_, why)| why)?;
+        self.carts = carts;
+        self.rank = Rank::Cart;
+        Ok(self)
     }
 }

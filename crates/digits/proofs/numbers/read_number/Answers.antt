@@ -1,7 +1,5 @@
 use Rattle.std.proofs.Common.{◌≡◌, ℕ, ◌+◌, ◌-◌, ◌*◌, ◌^◌, ◌<◌, List, length, get_or, take, decimal, sym, refl, ap, ◌∙◌, arith}
 use Rattle.std.specs.Str.Parse.{digits_value}
-use Rattle.std.specs.Int.{IsInRange}
-use Rattle.std.proofs.ByRecursion.{All-get_or}
 use Rattle.std.proofs.lemmas.List.{take_all}
 use Rattle.digits.specs.Numbers.{BaseTen}
 use Rattle.digits.proofs.NumberReads.{value_next, front_value_le, decimal_of_value}
@@ -9,9 +7,6 @@ use Rattle.digits.proofs.numbers.read_number.Goals as goal
 
 next_value : (bs : List ℕ) (i v : ℕ) → BaseTen bs → i < length bs → v ≡ digits_value 10 (take i bs) → v * 10 + (get_or bs i 0 - 48) ≡ digits_value 10 (take (i + 1) bs)
 next_value bs i v ten h e = ap (λ n. n * 10 + (get_or bs i 0 - 48)) e ∙ sym (value_next bs i h ten.0)
-
-pub overflow_sub-next : goal.overflow_sub-next
-overflow_sub-next c = (All-get_or (IsInRange 48 57) c.args.bytes.now c.loop-b.b-index 0 c.loop-b-test.true (c.if-not-base_ten.ensures.0 refl).0).0
 
 pub returns-then-next-most : goal.returns-then-next-most
 returns-then-next-most c =

@@ -1,11 +1,8 @@
 use Rattle.std.proofs.Common.{length, sym, refl, arith}
 use Rattle.fronts.specs.Rows.{entry_of, in_use}
-use Rattle.fronts.proofs.Additions.{added_holds, added_too_long, stay_with_room}
+use Rattle.fronts.proofs.Additions.{added_too_long, stay_with_room}
 use Rattle.fronts.proofs.adding.add.Goals as goal
 use Rattle.fronts.proofs.adding.add.Goals.{else-len-rows-via-then-len-rows+else-count_unbeaten-rows, else-len-rows-via-else-len-rows}
-
-pub returns-then-covers : goal.returns-then-covers
-returns-then-covers g c = (sym c.if-covers.ensures, refl)
 
 pub returns-then-count_unbeaten-rows : goal.returns-then-count_unbeaten-rows
 returns-then-count_unbeaten-rows g c =
@@ -20,8 +17,3 @@ put-requires g c =
       | else-len-rows-via-else-len-rows w ↦
           let room = stay_with_room g.C.CostKind.kind c.args.rows.now c.args.len c.args.row.cost (omega (arith, w.if-len-rows.false)) in omega (arith, stay.count, stay.long, room)
     ]
-
-pub returns : goal.returns
-returns g c =
-    let new = sym c.if-covers.ensures in
-    (new, added_holds g.C.CostKind.kind c.args.rows.now c.remove_beaten-stay.new.rows c.put.new.rows c.args.len c.remove_beaten-stay.result c.args.row new c.remove_beaten-stay.ensures c.put.ensures)

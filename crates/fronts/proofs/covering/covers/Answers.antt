@@ -1,22 +1,11 @@
-use Rattle.std.proofs.Common.{◌<◌, ◌≤◌, min, length, sym, ◌∙◌, arith}
-use Rattle.fronts.proofs.Stepping.{covered_more, covered_all}
+use Rattle.std.proofs.Common.{take, ◌∙◌, rules, tests}
+use Rattle.std.proofs.lemmas.Iterator.{YieldsList-from_slice, YieldsList-from_take}
+use Rattle.std.proofs.lemmas.Iterator.Search.{any_from_yields_List}
+use Rattle.fronts.proofs.Chains.{any_covers}
 use Rattle.fronts.proofs.covering.covers.Goals as goal
-
-pub loop-i-preserved : goal.loop-i-preserved
-loop-i-preserved g c =
-    let lt : c.loop-i.i < min c.args.len (length c.args.rows.now) = omega arith in
-    let step = covered_more g.C.CostKind.kind c.args.cost c.args.rows.now c.args.len c.loop-i.i c.index-rows-i.result lt in
-    let no_more = sym c.if-at_most.ensures in
-    sym (rw no_more at step) ∙ c.loop-i.invariant
-
-pub returns-then-at_most : goal.returns-then-at_most
-returns-then-at_most g c =
-    let lt : c.loop-i.i < min c.args.len (length c.args.rows.now) = omega arith in
-    let step = covered_more g.C.CostKind.kind c.args.cost c.args.rows.now c.args.len c.loop-i.i c.index-rows-i.result lt in
-    let found = sym c.if-at_most.ensures in
-    sym (rw found at step) ∙ c.loop-i.invariant
 
 pub returns : goal.returns
 returns g c =
-    let end : min c.args.len (length c.args.rows.now) ≤ c.loop-i.i = omega arith in
-    sym (covered_all g.C.CostKind.kind c.args.cost c.args.rows.now c.args.len c.loop-i.i end) ∙ c.loop-i.invariant
+    let kind = g.C.CostKind.kind in
+    let rows = YieldsList-from_take c.args.len (YieldsList-from_slice c.args.rows.now cc) c.take.ensures.count in
+    any_from_yields_List (λ r. kind.at_most r.cost c.args.cost) _ _ c.any.result c.any.ensures.ran rows (λ x b q k. search (rules, tests)) ∙ any_covers kind c.args.cost (take c.args.len c.args.rows.now)

@@ -1,19 +1,13 @@
-use Rattle.std.proofs.Common.{◌<◌, ◌≤◌, min, length, sym, arith}
-use Rattle.fronts.proofs.Stepping.{stays_more, stays_all}
+use Rattle.std.proofs.Common.{take, ◌∙◌, rules, tests}
+use Rattle.std.proofs.lemmas.Iterator.{YieldsList-from_slice, YieldsList-from_take}
+use Rattle.std.proofs.lemmas.Iterator.Consumers.{YieldsList-at, YieldsList-from_filter, count_from_yields_List}
+use Rattle.fronts.proofs.Removals.{unbeaten_row}
+use Rattle.fronts.proofs.Chains.{length_kept}
 use Rattle.fronts.proofs.removing.count_unbeaten.Goals as goal
-use Rattle.fronts.proofs.removing.count_unbeaten.Goals.{then-not-at_most, else-not-at_most}
-
-pub loop-i-preserved : goal.loop-i-preserved
-loop-i-preserved g c =
-    let lt : c.loop-i.i < min c.args.len (length c.args.rows.now) = omega arith in
-    let step = stays_more g.C.CostKind.kind c.args.cost c.args.rows.now c.args.len c.loop-i.i c.index-rows-i.result lt in
-    elim c.if-not-at_most.branch [
-      | then-not-at_most w ↦ let one = rw (sym w.if-not-at_most.ensures) at step in (omega arith, omega (arith, one, w.n-is, c.loop-i.invariant.1))
-      | else-not-at_most w ↦ let none = rw (sym w.if-not-at_most.ensures) at step in (omega arith, omega (arith, none, w.n-is, c.loop-i.invariant.1))
-    ]
 
 pub returns : goal.returns
 returns g c =
-    let end : min c.args.len (length c.args.rows.now) ≤ c.loop-i.i = omega arith in
-    let none = stays_all g.C.CostKind.kind c.args.cost c.args.rows.now c.args.len c.loop-i.i end in
-    omega (arith, none, c.loop-i.invariant.1)
+    let kind = g.C.CostKind.kind in
+    let rows = YieldsList-from_take {s = c.take.result} c.args.len (YieldsList-from_slice c.args.rows.now cc) c.take.ensures.count in
+    count_from_yields_List c.filter.result c.count.result c.count.ensures.ran (YieldsList-from_filter _ (unbeaten_row kind c.args.cost) (YieldsList-at c.filter.ensures.source rows) c.filter.ensures.closure (λ x r q k. search (rules, tests)))
+    ∙ length_kept kind c.args.cost (take c.args.len c.args.rows.now)

@@ -1,32 +1,35 @@
-use Rattle.std.proofs.Common.{ℕ, length, Ok, sym, ap, ◌∙◌, arith}
-use Rattle.carts.specs.Carts.{cart_of}
-use Rattle.std.proofs.lemmas.List.{length-map, length-replicate}
+use Rattle.std.proofs.Common.{◌≡◌, length, Ok, sym, ap, ◌∙◌, inl, arith}
+use Rattle.std.proofs.lemmas.Iterator.Consumers.{count_from_yields_List, YieldsList-from_first}
+use Rattle.rules.specs.Fronts.{front_of}
 use Rattle.labels.specs.Answers.{told}
+use Rattle.labels.specs.Choices.{arrived, shown_offer, offers_left}
+use Rattle.labels.specs.Picks.{comes_after}
 use Rattle.labels.specs.Queries.{asked, offers_of}
-use Rattle.labels.proofs.Answering.{solved_lands, solved_offers, solved_few, count_promise}
+use Rattle.labels.proofs.Answering.{solved_few, count_promise}
+use Rattle.labels.proofs.Offering.{left_few}
 use Rattle.labels.proofs.calls.count_offers.Goals as goal
 
-pub landing_of-requires : goal.landing_of-requires
-landing_of-requires g c = omega (arith, c.in-Ok.ensures.1.known, length-map c.args.query.now.carts.now cart_of)
-
-pub count_all-requires : goal.count_all-requires
-count_all-requires g c =
-    let a = asked g.F.Floor.moves g.C.CostKind.kind g.B.Constrains.constraint c.args.query.now in
-    solved_lands a c.landing_of.result c.landing_of.ensures c.lay_out.new.rows c.lay_out.new.starts c.in-Ok.end c.in-Ok.ensures.1 (g.met.F.Floor.bounds c.args.query.now.floor.now).few_places (c.lay_out.auto.starts ∙ length-replicate {A = ℕ} 8321 0)
+pub count-requires-clause-fits : goal.count-requires-clause-fits
+count-requires-clause-fits g c =
+    let s = c.offers.result in
+    inl (omega (arith, left_few s.arrivals.now g.C.CostKind.kind g.met.C.CostKind.laws (λ o. comes_after g.C.CostKind.kind s.last o.cost)))
 
 pub overflow_cast-result : goal.overflow_cast-result
 overflow_cast-result g c =
     let a = asked g.F.Floor.moves g.C.CostKind.kind g.B.Constrains.constraint c.args.query.now in
-    let solved = c.in-Ok.ensures.1 in
-    let count = c.count_all.ensures ∙ ap length (solved_offers a c.landing_of.result c.landing_of.ensures c.lay_out.new.rows c.lay_out.new.starts c.in-Ok.end solved) in
-    omega (arith, count, solved_few a c.landing_of.result c.landing_of.ensures c.lay_out.new.rows c.lay_out.new.starts c.in-Ok.end solved g.met.C.CostKind.laws)
+    let k = g.C.CostKind.kind in
+    let counted = count_from_yields_List c.offers.result c.count.result c.count.ensures.ran (YieldsList-from_first shown_offer (offers_left k) (front_of k (arrived c.arrivals_of-arrivals.result)) c.offers.ensures) in
+    let count : c.count.result ≡ length (offers_of a) = counted ∙ ap length c.arrivals_of-arrivals.ensures.offers in
+    omega (arith, count, solved_few a c.lay_out.new.rows c.lay_out.new.starts c.in_ok-end.end c.in_ok-end.ensures.1 g.met.C.CostKind.laws)
 
-pub returns-in-Ok : goal.returns-in-Ok
-returns-in-Ok g c =
+pub returns : goal.returns
+returns g c =
     let a = asked g.F.Floor.moves g.C.CostKind.kind g.B.Constrains.constraint c.args.query.now in
-    let laid = c.in-Ok.ensures in
-    let count = c.count_all.ensures ∙ ap length (solved_offers a c.landing_of.result c.landing_of.ensures c.lay_out.new.rows c.lay_out.new.starts c.in-Ok.end laid.1) in
+    let k = g.C.CostKind.kind in
+    let laid = c.in_ok-end.ensures in
+    let counted = count_from_yields_List c.offers.result c.count.result c.count.ensures.ran (YieldsList-from_first shown_offer (offers_left k) (front_of k (arrived c.arrivals_of-arrivals.result)) c.offers.ensures) in
+    let count : c.count.result ≡ length (offers_of a) = counted ∙ ap length c.arrivals_of-arrivals.ensures.offers in
     record {
       counted = ap Ok count ∙ ap (λ o. told o (length (offers_of a))) (sym laid.0);
-      promise = λ inside. count_promise a g.met.C.CostKind.laws (g.met.F.Floor.bounds c.args.query.now.floor.now) laid.1.known inside c.count_all.result count;
+      promise = λ inside. count_promise a g.met.C.CostKind.laws (g.met.F.Floor.bounds c.args.query.now.floor.now) laid.1.known inside c.count.result count;
     }

@@ -1,56 +1,37 @@
-use Rattle.std.proofs.Common.{◌≡◌, suc, ◌+◌, ◌≤◌, length, set, sym, refl, ap, subst, arith}
-use Rattle.std.proofs.lemmas.List.{get_or-set_same, length-set}
+use Rattle.std.proofs.Common.{◌≡◌, suc, ◌+◌, ◌≤◌, length, set, sym, refl, subst, arith}
+use Rattle.std.proofs.lemmas.List.{get_or-set_same}
 use Rattle.labels.specs.Queries.{asked}
-use Rattle.labels.specs.Tables.{Hold, cells_before}
-use Rattle.labels.proofs.Tabling.{table_room, hold_start, laid_first, laid_next, ticks_all, ticks_full}
+use Rattle.labels.specs.Tables.{Hold, Filled, cells_before}
+use Rattle.labels.proofs.Tabling.{hold_start, laid, ticks_all, ticks_full}
 use Rattle.labels.proofs.tables.fill_labels.Goals as goal
 
 pub loop-tick-init : goal.loop-tick-init
 loop-tick-init g c =
     let a = asked g.F.Floor.moves g.C.CostKind.kind g.B.Constrains.constraint c.args.query.now in
-    (refl, laid_first a _ refl refl c.is_busy.ensures, hold_start a c.args.rows.now (set c.args.starts.now 0 0) (get_or-set_same c.args.starts.now 0 0 0 (omega (arith, c.requires.table))))
+    record { laid = refl; held = hold_start a c.args.rows.now (set c.args.starts.now 0 0) (get_or-set_same c.args.starts.now 0 0 0 (omega (arith, c.requires.table))) }
 
-pub fill_tick-requires : goal.fill_tick-requires
-fill_tick-requires g c =
+pub fill_tick-requires-clause-laid : goal.fill_tick-requires-clause-laid
+fill_tick-requires-clause-laid g c =
     let a = asked g.F.Floor.moves g.C.CostKind.kind g.B.Constrains.constraint c.args.query.now in
-    let inv = c.loop-tick.invariant in
-    let few_places = (g.met.F.Floor.bounds c.args.query.now.floor.now).few_places in
-    let room = table_room a c.loop-tick.layer.tick c.loop-tick.layer.base (omega (arith, c.loop-tick-test.true, inv.0, c.requires.ticks)) few_places inv.1.base in
-    record {
-      few = omega (arith, c.loop-tick.auto.rows, c.requires.few);
-      known = c.requires.known;
-      indexed = c.index_of-index.ensures;
-      laid = inv.1;
-      table = omega (arith, room, c.loop-tick.auto.starts, length-set c.args.starts.now 0 0, c.requires.table);
-      held = inv.2;
-    }
+    laid a _ c.places-places.result c.places-places.ensures refl c.is_busy.ensures
 
-pub returns-in_default : goal.returns-in_default
-returns-in_default g c =
+pub returns-in_err-n : goal.returns-in_err-n
+returns-in_err-n g c =
     let a = asked g.F.Floor.moves g.C.CostKind.kind g.B.Constrains.constraint c.args.query.now in
-    let le : c.loop-tick.layer.tick ≤ a.inst.horizon = omega (arith, c.loop-tick-test.true, c.loop-tick.invariant.0) in
-    ticks_full a c.loop-tick.layer.tick (length c.fill_tick.new.rows) le c.in_default.ensures
+    let le : c.loop-tick.tick ≤ a.inst.horizon = omega (arith, c.loop-tick-test.true) in
+    subst (Filled a c.fill_tick.new.rows c.fill_tick.new.starts) (sym c.from_residual.ensures) (ticks_full a c.loop-tick.tick (length c.fill_tick.new.rows) le c.in_err-n.ensures)
 
 pub loop-tick-preserved : goal.loop-tick-preserved
 loop-tick-preserved g c =
     let a = asked g.F.Floor.moves g.C.CostKind.kind g.B.Constrains.constraint c.args.query.now in
-    let inv = c.loop-tick.invariant in
-    let on : suc c.loop-tick.layer.tick ≡ c.loop-tick.tick + 1 = omega (arith, inv.0) in (
-      refl,
-      laid_next a c.loop-tick.layer _ c.places-places.result c.places-places.ensures inv.1 (ap (λ x. x + 1) (sym inv.0)) refl refl c.is_busy-in-loop-tick.ensures refl,
-      subst (λ x. Hold c.fill_tick.new.rows c.fill_tick.new.starts (cells_before a x) c.in-Some.more) on c.in-Some.ensures,
-    )
+    let on : suc c.loop-tick.tick ≡ c.loop-tick.tick + 1 = omega arith in
+    record {
+      laid = (omega arith, laid a _ c.places-places.result c.places-places.ensures refl c.is_busy.ensures);
+      held = subst (λ x. Hold c.fill_tick.new.rows c.fill_tick.new.starts (cells_before a x) c.in_ok-n.n) on c.in_ok-n.ensures;
+    }
 
 pub returns : goal.returns
 returns g c =
     let a = asked g.F.Floor.moves g.C.CostKind.kind g.B.Constrains.constraint c.args.query.now in
-    let e : c.loop-tick.layer.tick ≡ suc a.inst.horizon = omega (arith, c.loop-tick-test.false, c.loop-tick.auto, c.loop-tick.invariant.0) in
-    ticks_all a c.loop-tick.layer.tick c.loop-tick.n c.loop-tick.rows c.loop-tick.starts e c.loop-tick.invariant.2
-
-pub overflow_add-layer-in-loop-tick : goal.overflow_add-layer-in-loop-tick
-overflow_add-layer-in-loop-tick g c =
-    let a = asked g.F.Floor.moves g.C.CostKind.kind g.B.Constrains.constraint c.args.query.now in
-    let inv = c.loop-tick.invariant in
-    let few_places = (g.met.F.Floor.bounds c.args.query.now.floor.now).few_places in
-    let room = table_room a c.loop-tick.layer.tick c.loop-tick.layer.base (omega (arith, c.loop-tick-test.true, inv.0, c.requires.ticks)) few_places inv.1.base in
-    omega (arith, room, c.places-places.ensures)
+    let e : c.loop-tick.tick ≡ suc a.inst.horizon = omega (arith, c.loop-tick-test.false, c.loop-tick.auto) in
+    ticks_all a c.loop-tick.tick c.loop-tick.n c.loop-tick.rows c.loop-tick.starts e c.loop-tick.invariant.held

@@ -1,9 +1,8 @@
-use Rattle.std.proofs.Common.{◌≡◌}
 use Rattle.labels.specs.Queries.{asked}
-use Rattle.labels.specs.Tables.{Hold, Laid, cells_before}
+use Rattle.labels.specs.Tables.{Hold, LaidBefore, cells_before}
 use Rattle.labels.proofs.tables.fill_labels.Given as goal
 
 abbrev pub invariant-loop-tick : goal.invariant-loop-tick
 invariant-loop-tick g l =
     let a = asked g.F.Floor.moves g.C.CostKind.kind g.B.Constrains.constraint l.query in
-    (l.layer.tick ≡ l.tick) × Laid a l.layer × Hold l.rows l.starts (cells_before a l.layer.tick) l.n
+    record { laid : LaidBefore a l.tick l.before; held : Hold l.rows l.starts (cells_before a l.tick) l.n }

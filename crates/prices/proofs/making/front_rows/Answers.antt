@@ -1,11 +1,11 @@
-use Rattle.std.proofs.Common.{◌≡◌, ℕ, List, length, take, vec_items, vec_len, Vec, sym, ap, ◌∙◌, subst}
+use Rattle.std.proofs.Common.{◌≡◌, ℕ, List, length, take, vec_items, vec_len, Option, Vec, sym, ap, ◌∙◌, subst}
 use Rattle.std.specs.Vec.{with_items}
 use Rattle.std.specs.declared.alloc.Global.{Global}
 use Rattle.std.proofs.lemmas.List.{with_items_is}
 use Rattle.rules.specs.Kinds.{Kind}
 use Rattle.rules.specs.Fronts.{Front}
 use Rattle.fronts.specs.Rows.{entries, in_use}
-use Rattle.fronts.specs.Whole.{costs_of}
+use Rattle.fronts.specs.Whole.{costs_of, Fronted}
 use Rattle.fronts.specs.declared.row.Row.{Row}
 use Rattle.prices.proofs.making.front_rows.Goals as goal
 
@@ -16,5 +16,6 @@ cut_front {C} k P last kept rows n e l f =
 
 pub returns : goal.returns
 returns g c =
-    cut_front g.C.CostKind.kind _ c.front_of.new.rows (vec_items c.truncate.new.self) c.in_ok-rows.rows c.in-Some.kept
-    c.truncate.ensures.items (c.front_of.auto.rows ∙ c.as_mut_slice.ensures.len) c.in-Some.ensures.front
+    cut_front g.C.CostKind.kind _ c.front_of.new.rows (vec_items c.truncate.new.self) c.in_ok-rows.rows c.unwrap-kept.result
+    c.truncate.ensures.items (c.front_of.auto.rows ∙ c.as_mut_slice.ensures.len)
+    (subst (λ (r : Option ℕ). Fronted g.C.CostKind.kind c.args.given.now c.as_mut_slice.result.now c.front_of.new.rows r) c.unwrap-kept.ensures c.front_of.ensures).front

@@ -4,5 +4,5 @@ use Rattle.fronts.specs.Whole.{costs_of}
 use Rattle.prices.specs.PriceLists.{said}
 use Rattle.prices.proofs.page.write_page.Given as goal
 
-abbrev pub invariant-loop-i : goal.invariant-loop-i
-invariant-loop-i g l = vec_items l.out ≡ said g.C.Text.text (costs_of (entries (take l.i l.rows)))
+abbrev pub invariant-loop-row : goal.invariant-loop-row
+invariant-loop-row g l = vec_items l.out ≡ said g.C.Text.text (costs_of (entries (take l.row-index l.rows)))

@@ -1,5 +1,5 @@
-use Rattle.sites.proofs.LineReads.{no_number}
+use Rattle.sites.proofs.LineReads.{number_unread}
 use Rattle.sites.proofs.lines.number.Goals as goal
 
-pub returns-in-Err : goal.returns-in-Err
-returns-in-Err c = no_number c.args.bytes.now c.in-Err.field-0 c.in-Err.ensures
+pub returns-in_err-value : goal.returns-in_err-value
+returns-in_err-value c = rw c.from_residual.ensures (number_unread c.args.bytes.now c.read_number.result c.read_number.ensures c.in_err-value.ensures.value)

@@ -1,10 +1,6 @@
 use Rattle.std.proofs.Common.{rules}
 use lib.Bits.{or_lt}
-use Rattle.costs.specs.ZoneSets.{zones_same}
 use Rattle.costs.proofs.zones_kind.ZonesCostKind.join.Goals as goal
 
 pub invariant_of-result : goal.invariant_of-result
 invariant_of-result c = record { fits = search (rules, or_lt) }
-
-pub returns : goal.returns
-returns c = zones_same _ _ (search rules)

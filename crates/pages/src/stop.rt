@@ -1,0 +1,40 @@
+ghost use Rattle.std.specs.Prelude.{◌≡◌, IfOk, IfErr};
+ghost use Rattle.pages.specs.declared.stop.Stop.TheVariants.{Memory, Refused};
+
+use std::alloc::{AllocError, AllocFailed};
+
+// What ends the work on a page early: memory is wanting, or the input is refused.
+#[derive(Clone, Copy, PartialEq, Eq, Debug)]
+pub enum Stop<R> {
+    Memory,
+    Refused(R),
+}
+
+impl<R: Copy> Stop<R> {
+    // The refusal, if it is one.
+    pub fn refusal(self) -> Result<R, AllocError>
+        ensures refused { IfOk result (λ refusal. self ≡ Refused refusal) }
+        ensures memory { IfErr result (λ _. self ≡ Memory) }
+    {
+        match self {
+            Stop::Refused(refusal) => Ok(refusal),
+            Stop::Memory => Err(AllocError),
+        }
+    }
+}
+
+impl<R> From<AllocError> for Stop<R> {
+    ghost from_gives = { λ _ r. r ≡ Memory };
+
+    fn from(_e: AllocError) -> Stop<R> {
+        Stop::Memory
+    }
+}
+
+impl<R, T: Drop> From<AllocFailed<T>> for Stop<R> {
+    ghost from_gives = { λ _ r. r ≡ Memory };
+
+    fn from(_e: AllocFailed<T>) -> Stop<R> {
+        Stop::Memory
+    }
+}
