@@ -27,6 +27,7 @@ pub fn on_floor<F: Floor, C: CostKind>(site: &SiteView<'_, F, C>) -> bool
 fn pays_below<F: Floor>(floor: &F, place: u8, lines: usize) -> bool
     ensures { Decides result (AllByRecursion (λ m. m.line < lines) (slice_index_or (F.Floor.moves floor.now) place [])) }
 {
+    // With `all` over the numbers and `is_some_and` for the move the proof did not close.
     for number in 0..floor.move_count(place) {
         let Some(step) = floor.step(place, number) else {
             unreachable()
