@@ -59,6 +59,7 @@ pub fn push_cart<F: Floor, C: CostKind>(
         constraints: &[],
         cart,
     };
+    // Which refusal it is says nothing more here, so no `map_err` takes it.
     let Ok(count) = count_offers(&query, rows) else {
         return Err(Stop::Refused(Fault::ManyLabels));
     };

@@ -1,4 +1,4 @@
-ghost use Rattle.std.specs.Prelude.{◌<◌, [], Decides, slice_index_or};
+ghost use Rattle.std.specs.Prelude.{◌<◌, [], length, Decides, slice_index_or};
 ghost use Rattle.std.specs.List.{AllByRecursion};
 ghost use Rattle.offer_pages.specs.Conditions.{OnFloor, LinesThere};
 ghost use Rattle.offer_pages.specs.Views.{meant};
@@ -23,19 +23,20 @@ pub fn on_floor<F: Floor, C: CostKind>(site: &SiteView<'_, F, C>) -> bool
     site.carts.iter().all(|cart| within(cart, places))
 }
 
+// Whether the move with a number pays a line below `lines`.
+fn pays<F: Floor>(floor: &F, place: u8, number: u8, lines: usize) -> bool
+    requires { number < length (slice_index_or (F.Floor.moves floor.now) place []) }
+    ensures { Decides result ((slice_index_or (slice_index_or (F.Floor.moves floor.now) place []) number (record { to = 0; line = 0 })).line < lines) }
+{
+    let step = floor.step(place, number).unwrap();
+    (step.line as usize) < lines
+}
+
 // Whether each move from a place pays a line below `lines`.
 fn pays_below<F: Floor>(floor: &F, place: u8, lines: usize) -> bool
     ensures { Decides result (AllByRecursion (λ m. m.line < lines) (slice_index_or (F.Floor.moves floor.now) place [])) }
 {
-    for number in 0..floor.move_count(place) {
-        let Some(step) = floor.step(place, number) else {
-            unreachable()
-        };
-        if step.line as usize >= lines {
-            return false;
-        }
-    }
-    true
+    (0..floor.move_count(place)).all(|number| pays(floor, place, number, lines))
 }
 
 // Whether the tariff has 1 to 255 lines, and the line of each move among them.
