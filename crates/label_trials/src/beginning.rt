@@ -37,7 +37,7 @@ impl<C: CostKind> Beginning<C> {
     ) -> Option<Beginning<C>> {
         let step = query.floor.step(self.end(), number)?;
         let price = query.tariff.get(usize::from(step.line))?;
-        let moves = self.moves.checked_add(1)?;
+        let moves = self.moves.saturating_add(1);
         let mut places = self.places;
         for place in places.iter_mut().skip(usize::from(moves)) {
             *place = step.to;
