@@ -5,6 +5,7 @@ use Rattle.rules.specs.Instances.{Move}
 use Rattle.rules.specs.Walks.{Constraint, forbids_place, forbids_move, any_of}
 use Rattle.charts.specs.declared.chart.Chart.{Chart}
 use Rattle.charts.specs.declared.inbound.Inbound.{Inbound}
+use Rattle.charts.specs.declared.marks.Marks.{Marks}
 use Rattle.charts.specs.declared.ticks.Ticks.{Ticks}
 use Rattle.charts.specs.Indexes.{AllIndexed}
 use Rattle.charts.specs.TickSets.{has, no_ticks}
@@ -31,13 +32,16 @@ abbrev pub ClosedAlong : (moves : List Inbound) (was after : List Ticks) (from t
 ClosedAlong moves was after from tick =
     (e t : ℕ) → e < length moves → t ≤ 63 → has (slice_index_or after e no_ticks) t ≡ (has (slice_index_or was e no_ticks) t || (leaves moves e == from && t == tick))
 
--- the chart holds besides what it held what f says of places and g of moves, and nothing else
-pub record Barred (places : ℕ) (was after : Chart) (f : ℕ → ℕ → Bool) (g : ℕ → ℕ → ℕ → Bool) : Type 0 where
-  pub same_index : after.index ≡ was.index
-  pub cells : ShutBy places was.shut after.shut f
-  pub departures : ClosedBy was.index.begins was.index.moves places was.closed after.closed g
-  pub other_cells : SameFrom false (65 * places) was.shut after.shut
-  pub other_moves : SameFrom no_ticks (slice_index was.index.begins places) was.closed after.closed
+-- the drawing holds besides what it held what f says of places and g of moves, and nothing else, and is of the same chart
+pub record Barred (was after : Marks) (f : ℕ → ℕ → Bool) (g : ℕ → ℕ → ℕ → Bool) : Type 0 where
+  pub same_index : after.index.now ≡ was.index.now
+  pub same_places : after.places ≡ was.places
+  pub same_shut : after.shut.ghost_name ≡ was.shut.ghost_name
+  pub same_closed : after.closed.ghost_name ≡ was.closed.ghost_name
+  pub cells : ShutBy was.places was.shut.now after.shut.now f
+  pub departures : ClosedBy was.index.now.begins was.index.now.moves was.places was.closed.now after.closed.now g
+  pub other_cells : SameFrom false (65 * was.places) was.shut.now after.shut.now
+  pub other_moves : SameFrom no_ticks (slice_index was.index.now.begins was.places) was.closed.now after.closed.now
 
 -- nothing is shut, and nothing is closed
 pub record Blank (chart : Chart) : Type 0 where

@@ -1,5 +1,4 @@
 mod blank;
-mod marking;
 
 use crate::index::Index;
 use crate::ticks::Ticks;

@@ -2,6 +2,7 @@ ghost use Rattle.std.specs.Prelude.{map};
 ghost use Rattle.charts.specs.Charts.{Drawn};
 
 use crate::chart::Chart;
+use crate::marks::Marks;
 use carts::Constrains;
 use floors::Floor;
 
@@ -10,8 +11,13 @@ pub fn draw<F: Floor, B: Constrains>(floor: &F, constraints: &[B], cart: u8, cha
     ensures { Drawn (F.Floor.moves floor.now) (map B.Constrains.constraint constraints.now) cart chart.old chart.new }
 {
     chart.index.fill(floor);
-    let places = floor.places();
+    let mut marks = Marks {
+        index: &chart.index,
+        shut: &mut chart.shut,
+        closed: &mut chart.closed,
+        places: floor.places(),
+    };
     for constraint in constraints {
-        chart.mark(constraint.constraint(), cart, places);
+        marks.add(constraint.constraint(), cart);
     }
 }

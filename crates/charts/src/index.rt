@@ -1,5 +1,3 @@
-ghost use Rattle.std.specs.Prelude.{◌≡◌, ℕ, ◌+◌, ◌<◌, ◌≤◌, length, slice_index};
-
 use crate::inbound::Inbound;
 
 mod asking;
@@ -12,8 +10,4 @@ mod filling;
 pub struct Index {
     pub begins: [u16; 129],
     pub moves: [Inbound; 1024],
-    ghost all_places: { length begins ≡ 129 },
-    ghost all_moves: { length moves ≡ 1024 },
-    ghost rising: { (p : ℕ) → p < 128 → slice_index begins p ≤ slice_index begins (p + 1) },
-    ghost within: { (p : ℕ) → slice_index begins p ≤ 1024 },
 }

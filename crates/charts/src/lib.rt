@@ -4,6 +4,7 @@ mod chart;
 mod drawing;
 mod inbound;
 mod index;
+mod marks;
 mod ticks;
 
 pub use chart::Chart;

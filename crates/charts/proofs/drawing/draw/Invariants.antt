@@ -6,4 +6,4 @@ use Rattle.charts.proofs.drawing.draw.Given as goal
 abbrev pub invariant-loop-constraint : goal.invariant-loop-constraint
 invariant-loop-constraint g l =
     let seen = map g.B.Constrains.constraint (take l.constraint-index l.constraints) in
-    Barred l.places l.initial.chart l.chart (λ p t. any_of (forbids_place l.cart p t) seen) (λ u p t. any_of (forbids_move l.cart u p t) seen)
+    Barred l.initial.marks l.marks (λ p t. any_of (forbids_place l.cart p t) seen) (λ u p t. any_of (forbids_move l.cart u p t) seen)
