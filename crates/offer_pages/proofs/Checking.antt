@@ -1,15 +1,10 @@
 -- The checks of an instance, element by element.
 -- Assumes nothing.
 use Rattle.std.proofs.Common.{◌≡◌, ℕ, ◌+◌, ◌<◌, ◌≤◌, Bool, true, false, List, [], ◌∷◌, map, length, get_or, take, Decides, sym, refl, ◌∙◌, subst, arith}
-use mathlib.Core.Option.{some}
-use lib.ListN.{get_elem?}
 use Rattle.std.specs.Bool.{MatchBool}
 use Rattle.std.specs.List.{AllByRecursion, AllWithin, HoldsAt, range_with_len}
 use Rattle.std.proofs.lemmas.List.FromFn.{length-range_with_len, get_or-range_with_len}
-use Rattle.std.proofs.ByRecursion.{All-get_or, All-more}
-use Rattle.std.proofs.lemmas.List.{take_all}
 use Rattle.std.proofs.lemmas.Bool.{false≢true}
-use Rattle.rules.proofs.Members.{at_place}
 
 -- a test that comes out as it should
 pub decides_yes : {P : Type 0} → P → Decides true P
@@ -30,22 +25,3 @@ all_in_range P n false (k, l, fails) =
 pub all_unmap : {X Y : Type 0} (P : Y → Type 0) (f : X → Y) (xs : List X) → AllByRecursion P (map f xs) → AllByRecursion (λ x. P (f x)) xs
 all_unmap P f [] h = tt
 all_unmap P f (x ∷ xs) h = (h.0, all_unmap P f xs h.1)
-
-module _ {X : Type 0} (P : X → Type 0) where
-  pub all_reached : (xs : List X) (n : ℕ) → length xs ≤ n → AllByRecursion P (take n xs) → AllByRecursion P xs
-  all_reached xs n h all = subst (λ (t : List X). AllByRecursion P t) (take_all n xs h) all
-
-  -- the element at a place fails
-  pub fails_at : (xs : List X) (n : ℕ) (d : X) → n < length xs → (P (get_or xs n d) → ⊥) → AllByRecursion P xs → ⊥
-  fails_at xs n d h no_p all = no_p (All-get_or P xs n d h all)
-
-  -- the same, for the element that was looked up
-  pub found_fails : (xs : List X) (n : ℕ) (x : X) → get_elem? xs n ≡ some x → (P x → ⊥) → AllByRecursion P xs → ⊥
-  found_fails xs n x e no_p all =
-      let at = at_place xs n x e in
-      fails_at xs n x at.0 (λ p. no_p (subst P (at.1 x) p)) all
-
-  pub found_more : (xs : List X) (n : ℕ) (x : X) → get_elem? xs n ≡ some x → P x → AllByRecursion P (take n xs) → AllByRecursion P (take (n + 1) xs)
-  found_more xs n x e p all =
-      let at = at_place xs n x e in
-      All-more P xs n x at.0 all (subst P (sym (at.1 x)) p)

@@ -48,12 +48,7 @@ pub fn page_of<F: Floor, C: CostKind>(
     if !lines_there(site) {
         return Err(Stop::Refused(Fault::NoLine));
     }
-    let row = LabelRow {
-        cost: C::zero(),
-        parent: 0,
-        place: 0,
-    };
-    let mut rows = vec![in heap; row; 2048]?;
+    let mut rows = vec![in heap; LabelRow::<C>::blank(); 2048]?;
     let mut places = vec![in heap; 0u8; site.horizon as usize + 1]?;
     write_page(site, rows.as_mut_slice(), places.as_mut_slice(), heap)
 }
