@@ -1,4 +1,4 @@
-use Rattle.std.proofs.Common.{length, refl, sym, ◌∙◌, arith}
+use Rattle.std.proofs.Common.{length, refl, sym, arith}
 use Rattle.std.proofs.lemmas.List.{length-map}
 use Rattle.std.proofs.lemmas.Bool.{false≢true, eqb-true, eqb-false}
 use Rattle.carts.specs.Carts.{cart_of}
@@ -14,19 +14,3 @@ returns-then-not-on_floor g c =
 pub returns-then-not-lines_there : goal.returns-then-not-lines_there
 returns-then-not-lines_there g c =
     (omega (arith, eqb-false (length c.args.site.now.carts.now) 0 (sym c.if-is_empty.ensures), length-map c.args.site.now.carts.now cart_of), c.if-not-on_floor.ensures.0 refl, λ h. false≢true (c.if-not-lines_there.ensures.1 h))
-
-pub write_page-requires : goal.write_page-requires
-write_page-requires g c =
-    record {
-      ready = record {
-        ticks = c.requires.ticks;
-        many = c.as_mut_slice.ensures.len ∙ c.in_ok-rows.ensures.len;
-        long = omega (arith, c.as_mut_slice-2.ensures.len, c.in_ok-places.ensures.len);
-        checked = record {
-          some_cart = omega (arith, eqb-false (length c.args.site.now.carts.now) 0 (sym c.if-is_empty.ensures), length-map c.args.site.now.carts.now cart_of);
-          on_floor = c.if-not-on_floor.ensures.0 refl;
-          lines = c.if-not-lines_there.ensures.0 refl;
-        };
-      };
-      few = c.requires.few;
-    }
