@@ -22,12 +22,7 @@ impl<'a, F: Floor, C: CostKind> Search<'a, F, C> {
         heap: Global,
         query: Query<'a, F, C, Constraint>,
     ) -> Result<Search<'a, F, C>, AllocError> {
-        let row = LabelRow {
-            cost: C::zero(),
-            parent: 0,
-            place: 0,
-        };
-        let rows = vec![in heap; row; ROWS]?;
+        let rows = vec![in heap; LabelRow::<C>::blank(); ROWS]?;
         Ok(Search { query, rows })
     }
 

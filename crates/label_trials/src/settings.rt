@@ -24,16 +24,11 @@ struct Setting<C: CostKind> {
 
 impl<C: Generated> Setting<C> {
     fn new(heap: Global, most: u8) -> Result<Setting<C>, AllocError> {
-        let row = LabelRow {
-            cost: C::zero(),
-            parent: 0,
-            place: 0,
-        };
         Ok(Setting {
             heap,
             numbers: Numbers::new(1),
             most,
-            rows: vec![in heap; row; ROWS]?,
+            rows: vec![in heap; LabelRow::<C>::blank(); ROWS]?,
         })
     }
 

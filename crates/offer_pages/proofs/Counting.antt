@@ -1,9 +1,9 @@
 -- What counting a cart's offers answers, once the checks are passed.
 -- Assumes nothing.
-use Rattle.std.proofs.Common.{◌≡◌, ℕ, ◌<◌, ◌≤◌, Bool, true, false, cond, leb, [], get_or, Some, None, Ok, Err, sym, refl, ap, ◌∙◌, arith}
+use Rattle.std.proofs.Common.{◌≡◌, ℕ, ◌<◌, ◌≤◌, Bool, true, false, cond, leb, List, [], length, get_or, Some, None, Ok, Err, Result, IsErr, sym, refl, ap, ◌∙◌, subst, arith}
 use Rattle.std.specs.Option.{option_or}
 use Rattle.std.proofs.ByRecursion.{All-get_or}
-use Rattle.std.proofs.lemmas.Bool.{cond-true, le-leb, le-ltb, lt-leb, leb-true, leb-false}
+use Rattle.std.proofs.lemmas.Bool.{false≢true, cond-true, le-leb, le-ltb, lt-leb, leb-true, leb-false}
 use Rattle.labels.specs.declared.refusal.LabelRefusal.{LabelRefusal}
 use Rattle.labels.specs.declared.refusal.LabelRefusal.TheVariants.{NoRowLeft}
 use Rattle.labels.specs.Answers.{told, refusal, hindrance, walk_hindrance}
@@ -28,6 +28,10 @@ told_fits false n x e = let z : ◌≡◌ {A = ℕ} 0 1 = cc in absurd (omega ar
 told_full : {X : Type 0} (b : Bool) (e : LabelRefusal) (x : X) → Err e ≡ told (cond b None (Some NoRowLeft)) x → b ≡ false
 told_full true e x h = let z : ◌≡◌ {A = ℕ} 0 1 = cc in absurd (omega arith)
 told_full false e x h = refl
+
+-- what is ready stays so where the rows are lent
+pub lent : {C X : Type 0} (i : Instance C) (held rows : List X) (long : ℕ) → rows ≡ held → Ready i (length held) long → Ready i (length rows) long
+lent i held rows long same ready = subst (λ (n : ℕ). Ready i n long) (ap length (sym same)) ready
 
 module _ {C : Type 0} (i : Instance C) (cart rows long : ℕ) (ready : Ready i rows long) (known : cart < cart_count i) where
   on_floor : ((get_or i.carts cart (record { start = 0; goal = 0 })).start < places i) × ((get_or i.carts cart (record { start = 0; goal = 0 })).goal < places i)
@@ -57,6 +61,7 @@ module _ {C : Type 0} (i : Instance C) (cart rows long : ℕ) (ready : Ready i r
         free = walk_unhindered (alone i cart) rows long ready.long (unhindered (alone i cart) rows admitted room);
       }
 
-  pub too_many : (e : LabelRefusal) (x : ℕ) → Err e ≡ told (hindrance (alone i cart) rows) x → 2048 < label_count i cart []
-  too_many e x h =
+  pub too_many : (r : Result ℕ LabelRefusal) (x : ℕ) → IsErr r → r ≡ told (hindrance (alone i cart) rows) x → 2048 < label_count i cart []
+  too_many (Ok n) x refused h = absurd (false≢true refused)
+  too_many (Err e) x refused h =
       omega (arith, ready.many, leb-false (label_count i cart []) rows (told_full (leb (label_count i cart []) rows) e x (h ∙ ap (λ o. told o x) by_labels)))

@@ -1,5 +1,8 @@
-ghost use Rattle.std.specs.Prelude.{◌<◌, [], length, Decides, slice_index_or};
+ghost use Rattle.std.specs.Prelude.{◌≡◌, ◌<◌, [], Decides, slice_index_or};
 ghost use Rattle.std.specs.List.{AllByRecursion};
+ghost use Rattle.std.proofs.Math.ListN.{get_elem?};
+ghost use Rattle.std.proofs.Math.Option.{some};
+ghost use Rattle.rules.specs.Instances.{Move};
 ghost use Rattle.offer_pages.specs.Conditions.{OnFloor, LinesThere};
 ghost use Rattle.offer_pages.specs.Views.{meant};
 
@@ -23,20 +26,20 @@ pub fn on_floor<F: Floor, C: CostKind>(site: &SiteView<'_, F, C>) -> bool
     site.carts.iter().all(|cart| within(cart, places))
 }
 
-// Whether the move with a number pays a line below `lines`.
-fn pays<F: Floor>(floor: &F, place: u8, number: u8, lines: usize) -> bool
-    requires { number < length (slice_index_or (F.Floor.moves floor.now) place []) }
-    ensures { Decides result ((slice_index_or (slice_index_or (F.Floor.moves floor.now) place []) number (record { to = 0; line = 0 })).line < lines) }
+// Whether a place has a move with a number, and that one pays a line below `lines`.
+fn pays_below<F: Floor>(floor: &F, place: u8, number: u8, lines: usize) -> bool
+    ensures { Decides result ((m : Move) × (get_elem? (slice_index_or (F.Floor.moves floor.now) place []) number ≡ some m) × (m.line < lines)) }
 {
-    let step = floor.step(place, number).unwrap();
-    (step.line as usize) < lines
+    floor
+        .step(place, number)
+        .is_some_and(|step| (step.line as usize) < lines)
 }
 
 // Whether each move from a place pays a line below `lines`.
-fn pays_below<F: Floor>(floor: &F, place: u8, lines: usize) -> bool
+fn all_pay_below<F: Floor>(floor: &F, place: u8, lines: usize) -> bool
     ensures { Decides result (AllByRecursion (λ m. m.line < lines) (slice_index_or (F.Floor.moves floor.now) place [])) }
 {
-    (0..floor.move_count(place)).all(|number| pays(floor, place, number, lines))
+    (0..floor.move_count(place)).all(|number| pays_below(floor, place, number, lines))
 }
 
 // Whether the tariff has 1 to 255 lines, and the line of each move among them.
@@ -45,5 +48,5 @@ pub fn lines_there<F: Floor, C: CostKind>(site: &SiteView<'_, F, C>) -> bool
 {
     let lines = site.tariff.len();
     (1..=255).contains(&lines)
-        && (0..site.floor.places()).all(|place| pays_below(site.floor, place, lines))
+        && (0..site.floor.places()).all(|place| all_pay_below(site.floor, place, lines))
 }

@@ -7,6 +7,7 @@ mod page;
 mod places;
 mod printing;
 mod view;
+mod writer;
 
 pub use pages::MOST_BYTES;
 pub use printing::offer_page;

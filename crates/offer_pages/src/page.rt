@@ -1,33 +1,29 @@
 ghost use Rattle.std.specs.Prelude.{◌≤◌, length};
-ghost use Rattle.offer_pages.specs.Carts.{Ready, PageAdded};
+ghost use Rattle.offer_pages.specs.Carts.{PageAdded};
 ghost use Rattle.offer_pages.specs.Views.{meant};
 
-use crate::carts_asked::push_cart;
 use crate::checks::{lines_there, on_floor};
 use crate::fault::Fault;
 use crate::view::SiteView;
+use crate::writer::PageWriter;
 use costs::CostKind;
 use floors::Floor;
 use labels::LabelRow;
 use pages::Stop;
 use std::alloc::Global;
 
-// The page of a site that passed the checks.
-fn write_page<F: Floor, C: CostKind>(
-    site: &SiteView<'_, F, C>,
-    rows: &mut [LabelRow<C>],
-    places: &mut [u8],
-    heap: Global,
-) -> Result<Vec<u8>, Stop<Fault>>
-    requires ready { Ready (meant F.Floor.moves C.CostKind.kind site.now) (length rows.old) (length places.old) }
-    requires few { length site.now.carts.now ≤ 6 }
-    ensures { PageAdded C.Text.text (meant F.Floor.moves C.CostKind.kind site.now) result }
-{
-    let mut out = Vec::new(heap);
-    for cart in 0..site.carts.len() as u8 {
-        push_cart(&mut out, site, cart, rows, places, heap)?;
+impl<F: Floor, C: CostKind> PageWriter<'_, F, C> {
+    // The page.
+    fn write_page(&mut self, heap: Global) -> Result<Vec<u8>, Stop<Fault>>
+        ensures { PageAdded C.Text.text (meant F.Floor.moves C.CostKind.kind self.old.site.now) result }
+    {
+        let mut out = Vec::new(heap);
+        // a query names its cart by number
+        for cart in 0..self.site.carts.len() as u8 {
+            self.push_cart(&mut out, cart, heap)?;
+        }
+        Ok(out)
     }
-    Ok(out)
 }
 
 // The page of a site, or the first check that fails.
@@ -48,12 +44,10 @@ pub fn page_of<F: Floor, C: CostKind>(
     if !lines_there(site) {
         return Err(Stop::Refused(Fault::NoLine));
     }
-    let row = LabelRow {
-        cost: C::zero(),
-        parent: 0,
-        place: 0,
+    let mut writer = PageWriter {
+        site,
+        rows: vec![in heap; LabelRow::<C>::blank(); 2048]?,
+        places: vec![in heap; 0u8; site.horizon as usize + 1]?,
     };
-    let mut rows = vec![in heap; row; 2048]?;
-    let mut places = vec![in heap; 0u8; site.horizon as usize + 1]?;
-    write_page(site, rows.as_mut_slice(), places.as_mut_slice(), heap)
+    writer.write_page(heap)
 }

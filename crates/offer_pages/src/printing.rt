@@ -44,6 +44,7 @@ pub fn offer_page(bytes: &[u8], heap: Global) -> Result<Vec<u8>, AllocError>
     ensures printed { IfOk result (λ v. Printed bytes.now v.items) }
     ensures one_print { OnePrint }
 {
+    // no `or_else`: its closure would hold both `?`
     match make_page(bytes, heap) {
         Ok(page) => Ok(page),
         Err(stop) => Ok(stop.refusal()?.to_string(heap)?.into_bytes()),

@@ -48,6 +48,7 @@ pub(crate) fn answer_list<C: Priced>(
 ) -> Result<Result<Vec<u8>, String>, AllocError>
     ensures { IfOk result (λ a. Answers C.Priced.line C.Priced.large C.Text.text C.CostKind.kind input.now (output a)) }
 {
+    // no `or_else`: its closure would hold both `?`
     match make_page::<C>(input, heap) {
         Ok(page) => Ok(Ok(page)),
         Err(stop) => Ok(Err(stop.refusal()?.to_string(heap)?)),

@@ -5,7 +5,7 @@ use crate::priced::Priced;
 use costs::Zones;
 use digits::ReadFault;
 
-// The value of a digit to the base 16, in lower case.
+// The value of a digit to the base 16, in lower case; `to_digit` takes capitals too.
 fn hex_value(byte: u8) -> Option<u64>
     ensures { HexRead byte result }
 {
