@@ -13,7 +13,7 @@ use Rattle.charts.specs.declared.index.Index.{Index}
 use Rattle.charts.specs.declared.marks.Marks.{Marks}
 use Rattle.charts.specs.declared.ticks.Ticks.{Ticks}
 use Rattle.charts.specs.Charts.{ShutBy, ClosedAlong, Barred, Drawn, SameFrom, leaves}
-use Rattle.charts.specs.Indexes.{AllIndexed}
+use Rattle.charts.specs.Indexes.{AllIndexed, IndexOf}
 use Rattle.charts.specs.TickSets.{has, no_ticks}
 use Rattle.charts.proofs.Flags.{or_false, or_true, or_assoc, and_true}
 
@@ -207,11 +207,12 @@ any_of_more rule bs i b lt f =
     ap (λ l. any_of f (map rule l)) (take_more bs i b lt) ∙ ap (any_of f) (map-append rule (take i bs) (get_or bs i b ∷ [])) ∙ any_of_push f (map rule (take i bs)) (rule (get_or bs i b))
 
 -- what was marked in a chart with the floor's index is drawn
-pub barred_drawn : (all : List (List Move)) (seen constraints : List Constraint) (cart : ℕ) (was after : Chart) (begun done : Marks) → seen ≡ constraints → begun.places ≡ length all → begun.index.now ≡ after.index → AllIndexed after.index.begins after.index.moves all →
+pub barred_drawn : (all : List (List Move)) (seen constraints : List Constraint) (cart : ℕ) (was after : Chart) (begun done : Marks) → seen ≡ constraints → begun.places ≡ length all → begun.index.now ≡ after.index → AllIndexed after.index.begins after.index.moves all → IndexOf after.index all →
     begun.shut.now ≡ was.shut → begun.closed.now ≡ was.closed → done.shut.now ≡ after.shut → done.closed.now ≡ after.closed →
     Barred begun done (λ p t. any_of (forbids_place cart p t) seen) (λ u p t. any_of (forbids_move cart u p t) seen) → Drawn all constraints cart was after
-barred_drawn all seen constraints cart was after begun done whole places index indexed shut closed shut' closed' h = record {
+barred_drawn all seen constraints cart was after begun done whole places index indexed held shut closed shut' closed' h = record {
   indexed = indexed;
+  held = held;
   shut = rw (sym whole, sym places, sym shut, sym shut') h.cells;
   closed = rw (sym whole, sym places, sym index, sym closed, sym closed') h.departures;
   other_cells = rw (sym places, sym shut, sym shut') h.other_cells;
