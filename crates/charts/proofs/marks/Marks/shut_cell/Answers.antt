@@ -1,4 +1,4 @@
-use Rattle.std.proofs.Common.{◌+◌, ◌*◌, set, true, refl, ap, ◌∙◌}
+use Rattle.std.proofs.Common.{refl}
 use Rattle.charts.proofs.Marking.{barred_cell}
 use Rattle.charts.proofs.marks.Marks.shut_cell.Goals as goal
 
