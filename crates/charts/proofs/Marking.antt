@@ -1,10 +1,10 @@
 -- Marks in the tables: one constraint, and one constraint more.
 -- Assumes nothing.
-use Rattle.std.proofs.Common.{◌≡◌, ℕ, zero, suc, ◌+◌, ◌-◌, ◌*◌, ◌/◌, ◌%◌, ◌<◌, ◌≤◌, ◌⊎◌, Bool, true, false, ◌&&◌, ◌||◌, eqb, ltb, List, [], ◌∷◌, ◌++◌, map, length, get_or, take, drop, set, slice_range, Bor, MutBor, sym, ap, ◌∙◌, subst, inl, inr, ⊎_elim, arith, rules}
+use Rattle.std.proofs.Common.{◌≡◌, ℕ, zero, suc, ◌+◌, ◌-◌, ◌*◌, ◌/◌, ◌%◌, ◌<◌, ◌≤◌, ◌⊎◌, Bool, true, false, ◌&&◌, ◌||◌, eqb, List, [], ◌∷◌, ◌++◌, map, length, get_or, take, drop, set, slice_range, Bor, MutBor, sym, ap, ◌∙◌, subst, inl, inr, ⊎_elim, arith, rules}
 use borrow.Rule.Slice.PartMut.{put_mid}
 use Rattle.std.proofs.lemmas.Nat.{mul-add-lt, div-mul-add, mod-mul-add}
 use Rattle.std.proofs.lemmas.List.{map-append, take_more, get_or-take, get_or-drop, get_or-set_same, get_or-set_other, places}
-use Rattle.std.proofs.lemmas.Bool.{cases_lt, cases_eq, eq-eqb, ne_eqb, lt-ltb, and_from, and_left, and_right}
+use Rattle.std.proofs.lemmas.Bool.{cases_lt, cases_eq, eq-eqb, ne_eqb, and_from, and_left, and_right}
 use Rattle.rules.specs.Instances.{Move}
 use Rattle.rules.specs.Walks.{Constraint, forbids_place, forbids_move, any_of}
 use Rattle.charts.specs.declared.chart.Chart.{Chart}
@@ -13,7 +13,7 @@ use Rattle.charts.specs.declared.index.Index.{Index}
 use Rattle.charts.specs.declared.marks.Marks.{Marks}
 use Rattle.charts.specs.declared.ticks.Ticks.{Ticks}
 use Rattle.charts.specs.Charts.{ShutBy, ClosedAlong, Barred, Drawn, SameFrom, leaves}
-use Rattle.charts.specs.Indexes.{AllIndexed}
+use Rattle.charts.specs.Indexes.{AllIndexed, IndexOf}
 use Rattle.charts.specs.TickSets.{has, no_ticks}
 use Rattle.charts.proofs.Flags.{or_false, or_true, or_assoc, and_true}
 
@@ -48,43 +48,12 @@ module _ (n : ℕ) (was : List Bool) (place tick : ℕ) where
   pub shut_others : place < n → tick ≤ 64 → SameFrom false (65 * n) was (set was (tick * n + place) true)
   shut_others lt low i past = get_or-set_other was (tick * n + place) i true false (λ same. omega (arith, mul-add-lt tick n place 65 (omega arith) lt))
 
--- a tick from 0 to 63, where one is added to a set
-tick_in : (tick t : ℕ) → t ≤ 63 → (ltb tick 64 && eqb tick t) ≡ eqb t tick
-tick_in tick t low = ⊎_elim
-    (λ e. and_from (ltb tick 64) (eqb tick t) (lt-ltb tick 64 (omega arith)) (eq-eqb tick t (sym e)) ∙ sym (eq-eqb t tick e))
-    (λ ne. and_right (ltb tick 64) (eqb tick t) (ne_eqb tick t (λ e. ne (sym e))) ∙ sym (ne_eqb t tick ne))
-    (cases_eq t tick)
-
 -- one move more
 module _ (moves : List Inbound) (was : List Ticks) (from tick : ℕ) where
   -- the moves below number n are closed, and the others as they were
   pub record ClosedSoFar (after : List Ticks) (n : ℕ) : Type 0 where
     pub below : (e t : ℕ) → e < n → t ≤ 63 → has (get_or after e no_ticks) t ≡ (has (get_or was e no_ticks) t || (eqb (leaves moves e) from && eqb t tick))
     pub behind : (e : ℕ) → n ≤ e → get_or after e no_ticks ≡ get_or was e no_ticks
-
-  module _ (after : List Ticks) (n : ℕ) (h : ClosedSoFar after n) where
-    pub closed_other : (leaves moves n ≡ from → ⊥) → ClosedSoFar after (n + 1)
-    closed_other ne = record {
-      below = λ e t lt low. ⊎_elim
-          (λ here. ap (λ s. has s t) (h.behind e (omega arith)) ∙ sym (ap (λ b. has (get_or was e no_ticks) t || b) (and_left (eqb (leaves moves e) from) (eqb t tick) (ne_eqb (leaves moves e) from (λ same. ne (ap (leaves moves) (sym here) ∙ same)))) ∙ or_false (has (get_or was e no_ticks) t)))
-          (λ there. h.below e t (omega arith) low)
-          (cases_eq e n);
-      behind = λ e ge. h.behind e (omega arith);
-    }
-
-    pub closed_here : (r : Ticks) → n < length after → leaves moves n ≡ from → ((t : ℕ) → has r t ≡ (has (get_or after n no_ticks) t || (ltb tick 64 && eqb tick t))) → ClosedSoFar (set after n r) (n + 1)
-    closed_here r lt same with_tick = record {
-      below = λ e t below low. ⊎_elim
-          (λ here. ap (λ k. has (get_or (set after n r) k no_ticks) t) here
-          ∙ ap (λ s. has s t) (get_or-set_same after n r no_ticks lt)
-          ∙ with_tick t
-          ∙ ap (λ s. has s t || (ltb tick 64 && eqb tick t)) (h.behind n (omega arith))
-          ∙ ap (λ b. has (get_or was n no_ticks) t || b) (tick_in tick t low ∙ sym (ap (λ b. b && eqb t tick) (eq-eqb (leaves moves n) from same)))
-          ∙ ap (λ k. has (get_or was k no_ticks) t || (eqb (leaves moves k) from && eqb t tick)) (sym here))
-          (λ there. ap (λ s. has s t) (get_or-set_other after n e r no_ticks there) ∙ h.below e t (omega arith) low)
-          (cases_eq e n);
-      behind = λ e ge. get_or-set_other after n e r no_ticks (λ here. omega arith) ∙ h.behind e (omega arith);
-    }
 
 -- one cell
 pub barred_cell : (was after : Marks) (place tick : ℕ) → place < was.places → tick ≤ 64 → after.index ≡ was.index → after.places ≡ was.places → after.closed ≡ was.closed → after.shut.ghost_name ≡ was.shut.ghost_name → after.shut.now ≡ set was.shut.now (tick * was.places + place) true → Barred was after (λ p t. eqb p place && eqb t tick) (λ u p t. false)
@@ -207,11 +176,12 @@ any_of_more rule bs i b lt f =
     ap (λ l. any_of f (map rule l)) (take_more bs i b lt) ∙ ap (any_of f) (map-append rule (take i bs) (get_or bs i b ∷ [])) ∙ any_of_push f (map rule (take i bs)) (rule (get_or bs i b))
 
 -- what was marked in a chart with the floor's index is drawn
-pub barred_drawn : (all : List (List Move)) (seen constraints : List Constraint) (cart : ℕ) (was after : Chart) (begun done : Marks) → seen ≡ constraints → begun.places ≡ length all → begun.index.now ≡ after.index → AllIndexed after.index.begins after.index.moves all →
+pub barred_drawn : (all : List (List Move)) (seen constraints : List Constraint) (cart : ℕ) (was after : Chart) (begun done : Marks) → seen ≡ constraints → begun.places ≡ length all → begun.index.now ≡ after.index → AllIndexed after.index.begins after.index.moves all → IndexOf after.index all →
     begun.shut.now ≡ was.shut → begun.closed.now ≡ was.closed → done.shut.now ≡ after.shut → done.closed.now ≡ after.closed →
     Barred begun done (λ p t. any_of (forbids_place cart p t) seen) (λ u p t. any_of (forbids_move cart u p t) seen) → Drawn all constraints cart was after
-barred_drawn all seen constraints cart was after begun done whole places index indexed shut closed shut' closed' h = record {
+barred_drawn all seen constraints cart was after begun done whole places index indexed held shut closed shut' closed' h = record {
   indexed = indexed;
+  held = held;
   shut = rw (sym whole, sym places, sym shut, sym shut') h.cells;
   closed = rw (sym whole, sym places, sym index, sym closed, sym closed') h.departures;
   other_cells = rw (sym places, sym shut, sym shut') h.other_cells;

@@ -1,10 +1,8 @@
 -- Lists in parts: what is joined, how long it is, and where each part stands.
 -- Assumes nothing.
-use Rattle.std.proofs.Common.{◌≡◌, ℕ, ◌+◌, ◌-◌, ◌<◌, ◌≤◌, List, [], ◌∷◌, ◌++◌, length, get_or, take, drop, set, sym, refl, ap, ◌∙◌, subst, inl, inr, arith}
-use Rattle.std.specs.List.{AllByRecursion}
-use Rattle.std.proofs.ByRecursion.{All-get_or}
+use Rattle.std.proofs.Common.{◌≡◌, ℕ, ◌+◌, ◌<◌, ◌≤◌, List, [], ◌∷◌, ◌++◌, length, get_or, take, drop, set, sym, refl, ap, ◌∙◌, inl, inr, arith}
 use Rattle.std.proofs.lemmas.Bool.{cases_eq}
-use Rattle.std.proofs.lemmas.List.{append-nil, append_assoc, take-append-drop, take_more, take_all, take_at, length-append, length_push, drop_at, take-append-le, get_or-set_same, get_or-set_other, length-take-le, length-drop, get_or-drop, get_or-take}
+use Rattle.std.proofs.lemmas.List.{append-nil, append_assoc, take-append-drop, take_more, take_all, take_at, length-append, length_push, drop_at, take-append-le, get_or-set_same, get_or-set_other}
 use Rattle.rules.specs.Offers.{joined_lists, total_length}
 use Rattle.charts.specs.Parts.{Marked, Part}
 
@@ -83,13 +81,3 @@ module _ {X : Type 0} where
             ∙ ap (drop (total_length (take c cells))) (take-append-le (total_length (take (c + 1) cells)) (joined_lists cells) more fits)
             ∙ part_of cells c lt;
       }
-
-  -- what each element of a part has, the element at a place of it has
-  pub part_has : (P : X → Type 0) (begins : List ℕ) (xs : List X) (n : ℕ) (part : List X) → Part begins xs n part → AllByRecursion P part → (e : ℕ) (d : X) → get_or begins n 0 ≤ e → e < get_or begins (n + 1) 0 → P (get_or xs e d)
-  part_has P begins xs n part h all e d lo hi =
-      let a = get_or begins n 0 in
-      let b = get_or begins (n + 1) 0 in
-      let long : length (drop a (take b xs)) ≡ b - a = length-drop a (take b xs) ∙ ap (λ m. m - a) (length-take-le b xs h.within) in
-      let at : a + (e - a) ≡ e = omega arith in
-      let in_part : e - a < length part = omega (arith, long, ap length h.same) in
-      subst P (ap (λ l. get_or l (e - a) d) (sym h.same) ∙ get_or-drop a (take b xs) (e - a) d ∙ ap (λ m. get_or (take b xs) m d) at ∙ get_or-take b xs e d hi) (All-get_or P part (e - a) d in_part all)

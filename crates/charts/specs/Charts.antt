@@ -7,7 +7,7 @@ use Rattle.charts.specs.declared.chart.Chart.{Chart}
 use Rattle.charts.specs.declared.inbound.Inbound.{Inbound}
 use Rattle.charts.specs.declared.marks.Marks.{Marks}
 use Rattle.charts.specs.declared.ticks.Ticks.{Ticks}
-use Rattle.charts.specs.Indexes.{AllIndexed}
+use Rattle.charts.specs.Indexes.{AllIndexed, IndexOf}
 use Rattle.charts.specs.TickSets.{has, no_ticks}
 
 -- the cell of place p at tick t is shut as it was, or where f says so
@@ -51,6 +51,7 @@ pub record Blank (chart : Chart) : Type 0 where
 -- the moves of the floor by the place reached, and besides what was shut and closed before what the constraints forbid the cart
 pub record Drawn (moves : List (List Move)) (constraints : List Constraint) (cart : ℕ) (was after : Chart) : Type 0 where
   pub indexed : AllIndexed after.index.begins after.index.moves moves
+  pub held : IndexOf after.index moves
   pub shut : ShutBy (length moves) was.shut after.shut (λ p t. any_of (forbids_place cart p t) constraints)
   pub closed : ClosedBy after.index.begins after.index.moves (length moves) was.closed after.closed (λ u p t. any_of (forbids_move cart u p t) constraints)
   pub other_cells : SameFrom false (65 * length moves) was.shut after.shut

@@ -50,7 +50,7 @@ impl MoveTable {
         requires room { length (slice_index_or self.old place []) < 8 }
         ensures { self.new ≡ extended self.old place (move_of step ∷ []) }
     {
-        self.lists[place as usize].push(step);
+        self.lists[usize::from(place)].push(step);
     }
 
     pub(crate) fn places(&self) -> u8
@@ -64,7 +64,7 @@ impl MoveTable {
         ensures { result ≡ length (slice_index_or self.now place []) }
     {
         self.lists
-            .get(place as usize)
+            .get(usize::from(place))
             .map_or(0, |list| list.len() as u8)
     }
 
@@ -73,8 +73,8 @@ impl MoveTable {
         ensures { step_option result ≡ get_elem? (slice_index_or self.now place []) number }
     {
         self.lists
-            .get(place as usize)?
-            .get(number as usize)
+            .get(usize::from(place))?
+            .get(usize::from(number))
             .copied()
     }
 }

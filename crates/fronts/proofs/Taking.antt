@@ -25,15 +25,6 @@ module _ {C : Type 0} (k : Kind C) (given : List (Row C)) where
     pub fits : Fits k given (length start) i
     pub rest : (m : ℕ) → Fits k given m i → drop m rows ≡ drop m start
 
-  pub taking_none : (start : List (Row C)) → Taking start start 0 0
-  taking_none start =
-      record {
-        long = refl;
-        held = refl;
-        fits = λ j le. let first : j ≡ 0 = omega arith in rw first (omega arith);
-        rest = λ m _. refl;
-      }
-
   -- the front of the first i + 1 rows, as one that was added to that of the first i
   next_front : (rows : List (Row C)) (len i : ℕ) (x : Row C) → in_use len rows ≡ front_of k (in_use i given) → i < length given → x ≡ get_or given i x →
       front_of k (in_use (i + 1) given) ≡ added k (in_use len rows) (entry_of x)

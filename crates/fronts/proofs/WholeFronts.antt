@@ -1,19 +1,16 @@
 -- The front of some entries: how it grows with one entry more, and that it is the front of their costs.
 -- Assumes nothing.
-use Rattle.std.proofs.Common.{◌≡◌, ℕ, ◌+◌, ◌<◌, List, [], ◌∷◌, ◌++◌, map, length, get_or, refl, ap, ◌∙◌, inl, inr}
+use Rattle.std.proofs.Common.{◌≡◌, ℕ, ◌+◌, ◌<◌, List, [], ◌∷◌, ◌++◌, length, get_or, refl, ap, ◌∙◌, inl, inr}
 use Rattle.std.specs.List.{ContainsAt as Has, AllByRecursion}
 use Rattle.std.proofs.lemmas.List.{map_more}
 use Rattle.std.proofs.ByRecursion.{all-has, all_has_itself, All-map, All-weaker}
 use Rattle.rules.specs.Kinds.{Kind, Laws}
 use Rattle.rules.specs.Fronts.{Entry, Front, added, added_all, front_of}
 use Rattle.rules.proofs.Fronts.{Covered, all_front, front_covers, is_front, ranked_front}
+use Rattle.rules.proofs.Members.{all_of_map}
 use Rattle.fronts.specs.declared.row.Row.{Row}
 use Rattle.fronts.specs.Rows.{entry_of, in_use}
 use Rattle.fronts.specs.Whole.{costs_of}
-
-all_from_map : {X Y : Type 0} (P : X → Type 0) (f : Y → X) (ys : List Y) → AllByRecursion P (map f ys) → AllByRecursion (λ y. P (f y)) ys
-all_from_map P f [] h = tt
-all_from_map P f (y ∷ ys) h = (h.0, all_from_map P f ys h.1)
 
 module _ {C : Type 0} (k : Kind C) where
   added_all_push : (es ys : List (Entry C ℕ)) (x : Entry C ℕ) → added_all k es (ys ++ x ∷ []) ≡ added k (added_all k es ys) x
@@ -32,7 +29,7 @@ module _ {C : Type 0} (k : Kind C) where
 
   -- each entry's cost is among the costs
   own_cost : (xs : List (Entry C ℕ)) → AllByRecursion (λ e. Has (costs_of xs) e.cost) xs
-  own_cost xs = all_from_map (Has (costs_of xs)) (λ e. e.cost) xs (all_has_itself (costs_of xs))
+  own_cost xs = all_of_map (Has (costs_of xs)) (λ e. e.cost) xs (all_has_itself (costs_of xs))
 
   -- the front that is kept is the front of the costs
   pub is_whole : Laws k → (xs : List (Entry C ℕ)) → Front k (Has (costs_of xs)) (costs_of (front_of k xs))

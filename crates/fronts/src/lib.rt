@@ -11,6 +11,8 @@ mod row;
 mod tests;
 mod whole;
 
+// The functions take the rows and how many are in use apart: they are public, and their signatures are settled. `FrontList` is the
+// struct of the two.
 pub use added::Added;
 pub use adding::add;
 pub use covering::covers;

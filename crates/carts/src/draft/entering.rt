@@ -60,12 +60,13 @@ impl Draft {
     pub fn carts(&self) -> u8
         ensures { result ≡ self.now.carts }
     {
-        self.carts
+        self.carts // no more than six
     }
 
     // Enters a cart in the first row that is not in use, or gives the draft back with all rows as they were.
+    // It takes the draft and gives it back, and no `&mut`, as callers know it: its signature is settled.
     pub fn add_cart(
-        self,
+        mut self,
         rows: &mut [Cart],
         start: u16,
         goal: u16,
@@ -75,11 +76,9 @@ impl Draft {
         // A `match`, and no `?`: the draft goes into either answer.
         match self.admit(rows, start, goal) {
             Ok(cart) => {
-                rows[self.carts as usize] = cart;
-                Ok(Draft {
-                    horizon: self.horizon,
-                    carts: self.carts + 1,
-                })
+                rows[usize::from(self.carts)] = cart;
+                self.carts += 1;
+                Ok(self)
             }
             Err(refusal) => Err((self, refusal)),
         }
@@ -89,7 +88,7 @@ impl Draft {
     fn admit(&self, rows: &[Cart], start: u16, goal: u16) -> Result<Cart, DraftRefusal>
         ensures { Admitted (take self.now.carts rows.now) (length rows.now) start goal result }
     {
-        let row = self.carts as usize;
+        let row = usize::from(self.carts);
         if row >= MOST_CARTS || row >= rows.len() {
             return Err(DraftRefusal::NoRow);
         }

@@ -47,7 +47,7 @@ impl Marks<'_> {
         ensures { Barred self.old self.new (λ p t. (p == place) && t == tick) (λ u p t. false) }
     {
         if place < self.places && tick <= 64 {
-            self.shut[tick as usize * self.places as usize + place as usize] = true;
+            self.shut[usize::from(tick) * usize::from(self.places) + usize::from(place)] = true;
         }
     }
 
@@ -59,8 +59,8 @@ impl Marks<'_> {
             return;
         }
         let index = self.index;
-        let begin = index.begin(to as usize) as usize;
-        let end = index.begin(to as usize + 1) as usize;
+        let begin = usize::from(index.begin(usize::from(to)));
+        let end = usize::from(index.begin(usize::from(to) + 1));
         let closed = &mut *self.closed;
         close_from(
             &index.moves[begin..end],

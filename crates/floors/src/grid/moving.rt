@@ -12,6 +12,8 @@ use arrayvec::ArrayVec;
 
 const BLOCKED: u8 = 255;
 
+// A cell's number is below width × height in three contracts: a type of it would have to lend the grid too, and each clause name the
+// grid through it.
 impl<'a> Grid<'a> {
     // A grid with 1 to 128 cells, and a byte for each.
     pub(crate) fn of(width: usize, height: usize, cells: &'a [u8]) -> Result<Grid<'a>, FloorRefusal>

@@ -35,5 +35,5 @@ returns g c =
     let rule = g.B.Constrains.constraint in
     let cs = c.args.constraints.now in
     let i = c.loop-constraint.constraint-index in
-    barred_drawn (g.F.Floor.moves c.args.floor.now) (map rule (take i cs)) (map rule cs) c.args.cart c.args.chart.now _ _ c.loop-constraint.marks (ap (map rule) (take_all i cs c.loop-constraint-test.false)) c.places.ensures refl c.fill.ensures.indexed
+    barred_drawn (g.F.Floor.moves c.args.floor.now) (map rule (take i cs)) (map rule cs) c.args.cart c.args.chart.now _ _ c.loop-constraint.marks (ap (map rule) (take_all i cs c.loop-constraint-test.false)) c.places.ensures refl c.fill.ensures.indexed c.fill.ensures.held
     refl refl refl refl c.loop-constraint.invariant

@@ -11,8 +11,10 @@ returns c =
     let now = c.deref_mut.result.now in
     let after = c.push.new.self in
     let same = c.deref_mut.ensures.value in
-    let lt : c.args.place < length now = omega (arith, c.requires.from, ap length c.self.view_is, length-map lists held, ap length same) in
-    ap (map held) (refilled lists (set now c.args.place after) (length-set now c.args.place after ∙ ap length same))
-    ∙ pushed now c.args.place c.index-deref_mut-place.result after c.args.step lt c.push.ensures.items
-    ∙ ap (λ ls. extended (map held ls) c.args.place (move_of c.args.step ∷ [])) same
-    ∙ ap (λ ms. extended ms c.args.place (move_of c.args.step ∷ [])) c.self.view_is
+    let n = c.from.result in
+    let lt : n < length now = omega (arith, c.from.ensures, c.requires.from, ap length c.self.view_is, length-map lists held, ap length same) in
+    ap (map held) (refilled lists (set now n after) (length-set now n after ∙ ap length same))
+    ∙ pushed now n c.index-deref_mut-from.result after c.args.step lt c.push.ensures.items
+    ∙ ap (λ ls. extended (map held ls) n (move_of c.args.step ∷ [])) same
+    ∙ ap (λ ms. extended ms n (move_of c.args.step ∷ [])) c.self.view_is
+    ∙ ap (λ k. extended c.args.self.now k (move_of c.args.step ∷ [])) c.from.ensures
