@@ -6,7 +6,7 @@ use crate::fault::Fault;
 use crate::page::page_of;
 use crate::view::SiteView;
 use carts::Cart;
-use costs::{Pair, Total, Worst};
+use costs::{CostKind, Pair, Total, Worst};
 use floors::LaneRow;
 use pages::Stop;
 use sites::read_site;
@@ -21,18 +21,13 @@ fn make_page(bytes: &[u8], heap: Global) -> Result<Vec<u8>, Stop<Fault>>
         to: 0,
         line: 0,
     }; 1024];
-    let mut tariff = [Pair {
-        first: Total { value: 0 },
-        second: Worst { value: 0 },
-    }; 256];
+    let mut tariff = [Pair::<Total, Worst>::zero(); 256];
     let mut carts = [Cart { start: 0, goal: 0 }; 6];
-    let site = read_site(bytes, &mut lanes, &mut tariff, &mut carts).map_err(
-        |refusal| Stop::Refused(Fault::Unread(refusal)),
-    )?;
+    let site = read_site(bytes, &mut lanes, &mut tariff, &mut carts).map_err(Fault::Unread)?;
     let view = SiteView {
         floor: &site.floor,
         tariff: &tariff[..site.tariff],
-        carts: &carts[..site.draft.carts() as usize],
+        carts: &carts[..usize::from(site.draft.carts())],
         horizon: site.draft.horizon(),
     };
     page_of(&view, heap)
