@@ -8,7 +8,7 @@ use crate::view::SiteView;
 use carts::Cart;
 use costs::{CostKind, Pair, Total, Worst};
 use floors::LaneRow;
-use pages::Stop;
+use pages::{Stop, or_line};
 use sites::read_site;
 use std::alloc::{AllocError, Global};
 
@@ -39,9 +39,5 @@ pub fn offer_page(bytes: &[u8], heap: Global) -> Result<Vec<u8>, AllocError>
     ensures printed { IfOk result (λ v. Printed bytes.now v.items) }
     ensures one_print { OnePrint }
 {
-    // no `or_else`: its closure would hold both `?`
-    match make_page(bytes, heap) {
-        Ok(page) => Ok(page),
-        Err(stop) => Ok(stop.refusal()?.to_string(heap)?.into_bytes()),
-    }
+    Ok(or_line(make_page(bytes, heap), heap)?.unwrap_or_else(String::into_bytes))
 }
