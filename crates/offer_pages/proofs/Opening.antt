@@ -26,9 +26,6 @@ use Rattle.offer_pages.specs.Views.{Cost, site_kind, instance_of}
 pub first_rows : {X : Type 0} (rows was after : List X) (n : ℕ) → after ≡ filled rows was → n ≡ length rows → take n after ≡ rows
 first_rows rows was after n e l = ap (take n) e ∙ take_at rows (drop (length rows) was) n (sym l)
 
-pub rows_within : {X : Type 0} (rows was after : List X) → after ≡ filled rows was → length rows ≤ length after
-rows_within rows was after e = omega (arith, ap length e, length-append rows (drop (length rows) was))
-
 pub same_rooms : (t : Tables) → length t.lanes ≡ 1024 → length t.tariff ≡ 256 → length t.carts ≡ 6 → rooms_of t ≡ site_rooms
 same_rooms t a b c = λ s. record { lanes = a s; tariff = b s; carts = c s }
 
