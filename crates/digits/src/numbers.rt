@@ -25,13 +25,9 @@ pub fn read_number(bytes: &[u8], most: u32) -> Result<u32, ReadFault>
     if !base_ten(bytes) {
         return Err(ReadFault::Malformed);
     }
-    let mut value: u32 = 0;
-    for b in bytes {
-        let next = value as u64 * 10 + (*b - b'0') as u64;
-        if next > most as u64 {
-            return Err(ReadFault::TooLarge);
-        }
-        value = next as u32;
+    // of digits `parse` refuses only those of a number above 32 bits
+    match str::from_utf8(bytes).unwrap().parse::<u32>() {
+        Ok(value) if value <= most => Ok(value),
+        _ => Err(ReadFault::TooLarge),
     }
-    Ok(value)
 }

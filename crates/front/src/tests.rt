@@ -63,16 +63,13 @@ fn takes_no_more_than_the_most_bytes(rt: HostRuntime) -> Result<(), Fail> {
     for _ in 0..MOST_BYTES / 4 {
         input.extend_from_slice(b"1 1\n")?;
     }
-    match front_page("costs", input.as_slice(), rt.alloc())? {
-        Ok(page) => assert_eq!(rt; page.as_slice(), b"1 1\nkept 1 of 4096\n".as_slice()),
-        Err(_) => return Err(Fail::new("no page for the most bytes")),
-    }
+    let page = front_page("costs", input.as_slice(), rt.alloc())?
+        .map_err(|_| Fail::new("no page for the most bytes"))?;
+    assert_eq!(rt; page.as_slice(), b"1 1\nkept 1 of 4096\n".as_slice());
     input.push(b'\n')?;
-    match front_page("costs", input.as_slice(), rt.alloc())? {
-        Ok(_) => Err(Fail::new("a page for too many bytes")),
-        Err(line) => {
-            assert_eq!(rt; line.as_str(), "line 0: more than 16384 bytes\n");
-            Ok(())
-        },
-    }
+    let line = front_page("costs", input.as_slice(), rt.alloc())?
+        .err()
+        .ok_or(Fail::new("a page for too many bytes"))?;
+    assert_eq!(rt; line.as_str(), "line 0: more than 16384 bytes\n");
+    Ok(())
 }

@@ -4,6 +4,7 @@ use carts::Constraint;
 use costs::CostKind;
 use floors::Floor;
 use labels::{LabelRow, Query, count_labels, count_offers, take_offer};
+use pages::push_line;
 use std::alloc::{AllocError, Global};
 use std::io::Write;
 use std::time::Instant;
@@ -61,19 +62,13 @@ impl<'a, F: Floor, C: CostKind> Search<'a, F, C> {
 }
 
 fn print_cost<C: CostKind>(rt: &HostRuntime, cost: C) -> anyhow::Result<()> {
-    // a cost writes its text into memory that it is lent: no crate below the programs has a heap
-    let mut text = [0u8; 64];
-    let len = cost
-        .write_text(&mut text)
-        .context("a cost's text is above 64 bytes")?;
-    let mut out = rt.stdout();
-    out.write_all(b"QC ")?;
-    out.write_all(&text[..len])?;
-    out.write_all(b"\n")?;
+    let mut line = Vec::new(rt.alloc());
+    push_line(&mut line, b"QC ", &cost, rt.alloc())?;
+    rt.stdout().write_all(line.as_slice())?;
     Ok(())
 }
 
-// Prints as it goes: a `Display` would be a type and an impl round this same loop.
+// Prints as it goes: the `Display` of `offer_pages` for such a line is that crate's own, and a second one would be longer than the loop.
 fn print_walk(rt: &HostRuntime, places: &[u8]) -> anyhow::Result<()> {
     print!(rt; "QP")?;
     for place in places {

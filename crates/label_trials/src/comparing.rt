@@ -1,16 +1,15 @@
 use crate::all_walks::{all_beginnings, walks_of};
 use crate::beginning::Beginning;
-use crate::costs_kept::{contains, same_cost, undominated};
+use crate::costs_kept::undominated;
 use crate::generated::Generated;
 use crate::trial::Trial;
 use carts::Constraint;
-use costs::CostKind;
 use floors::Floor;
 use labels::{LabelRow, Query, count_labels, count_offers, take_offer};
 use std::alloc::{AllocError, Global};
 
 // How many labels there are: the undominated costs of each tick and place.
-fn label_total<F: Floor, C: CostKind>(
+fn label_total<F: Floor, C: Generated>(
     heap: Global,
     query: &Query<'_, F, C, Constraint>,
     beginnings: &[Beginning<C>],
@@ -31,18 +30,20 @@ fn label_total<F: Floor, C: CostKind>(
 }
 
 // Whether a walk has the cost, and arrives no later than any other that has it.
-fn is_earliest<C: CostKind>(walks: &[Beginning<C>], walk: &Beginning<C>, cost: C) -> bool {
-    same_cost(walk.cost, cost)
-        && walks.iter().all(|other| !same_cost(other.cost, cost) || walk.moves <= other.moves)
+fn is_earliest<C: Generated>(walks: &[Beginning<C>], walk: &Beginning<C>, cost: C) -> bool {
+    walk.cost == cost
+        && walks
+            .iter()
+            .all(|other| other.cost != cost || walk.moves <= other.moves)
 }
 
 // Whether the places are those of a walk that has the cost, and arrives no later than any other that has it.
-fn is_walked<C: CostKind>(walks: &[Beginning<C>], cost: C, places: &[u8]) -> bool {
+fn is_walked<C: Generated>(walks: &[Beginning<C>], cost: C, places: &[u8]) -> bool {
     walks.iter().any(|walk| walk.places.starts_with(places) && is_earliest(walks, walk, cost))
 }
 
 // Whether the offers, `count` of them, are the undominated costs of the walks, each once and in order, each with a walk that has it, and no more.
-fn offers_agree<F: Floor, C: CostKind>(
+fn offers_agree<F: Floor, C: Generated>(
     heap: Global,
     query: &Query<'_, F, C, Constraint>,
     walks: &[Beginning<C>],
@@ -57,7 +58,7 @@ fn offers_agree<F: Floor, C: CostKind>(
         let Ok(Some(cost)) = take_offer(query, number, rows, places.as_mut_slice()) else {
             return Ok(false);
         };
-        if !contains(costs.as_slice(), cost)
+        if !costs.as_slice().contains(&cost)
             || !last.is_none_or(|before| before.before(cost))
             || !is_walked(walks, cost, places.as_slice())
         {

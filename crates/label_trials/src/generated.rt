@@ -3,7 +3,7 @@ use costs::{CostKind, Pair, Total, Worst, Zones};
 
 // A kind of cost whose tariff lines can be made from numbers. They are few, so that walks of equal costs occur. `label_times` has the like for words,
 // whose lines can be wrong: one trait for both would put an error here, where none comes.
-pub trait Generated: CostKind {
+pub trait Generated: CostKind + PartialEq {
     fn generate(numbers: &mut Numbers) -> Self;
 }
 

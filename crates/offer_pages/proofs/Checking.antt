@@ -21,7 +21,3 @@ all_in_range P n false (k, l, fails) =
     let h : k < n = omega (arith, l, length-range_with_len 0 n) in
     let same : 0 + k ≡ k = omega arith in
     decides_no (λ all. fails 0 (subst P (sym (get_or-range_with_len 0 n k 0 h ∙ same)) (all k h)))
-
-pub all_unmap : {X Y : Type 0} (P : Y → Type 0) (f : X → Y) (xs : List X) → AllByRecursion P (map f xs) → AllByRecursion (λ x. P (f x)) xs
-all_unmap P f [] h = tt
-all_unmap P f (x ∷ xs) h = (h.0, all_unmap P f xs h.1)

@@ -26,9 +26,6 @@ use Rattle.offer_pages.specs.Views.{Cost, site_kind, instance_of}
 pub first_rows : {X : Type 0} (rows was after : List X) (n : ℕ) → after ≡ filled rows was → n ≡ length rows → take n after ≡ rows
 first_rows rows was after n e l = ap (take n) e ∙ take_at rows (drop (length rows) was) n (sym l)
 
-pub rows_within : {X : Type 0} (rows was after : List X) → after ≡ filled rows was → length rows ≤ length after
-rows_within rows was after e = omega (arith, ap length e, length-append rows (drop (length rows) was))
-
 pub same_rooms : (t : Tables) → length t.lanes ≡ 1024 → length t.tariff ≡ 256 → length t.carts ≡ 6 → rooms_of t ≡ site_rooms
 same_rooms t a b c = λ s. record { lanes = a s; tariff = b s; carts = c s }
 
@@ -37,13 +34,13 @@ turned_down bytes was after e rooms d =
     subst (λ (r : Rooms). ((16384 < length bytes) × (e ≡ record { line = 0; fault = TooLong })) ⊎ ((length bytes ≤ 16384) × Refused r bytes e.line e.fault)) rooms d.why
 
 -- a refusal, as it stops the page
-pub unread : (bytes : List ℕ) (was after : Tables) (r : Result Site SiteRefusal) (Says : SiteRefusal → Type 0) (stop : Stop Fault) → length was.lanes ≡ 1024 → length was.tariff ≡ 256 → length was.carts ≡ 6 → SiteRead bytes was after r → MatchResult r (λ site. ◌≡◌ {A = Result Site (Stop Fault)} (Err stop) (Ok site)) Says → ((e : SiteRefusal) → Says e → stop ≡ Declined (Unread e)) → PageMade bytes (Err stop)
-unread bytes was after (Ok site) Says stop a b c read h says = let z : ◌≡◌ {A = ℕ} 0 1 = cc in absurd (omega arith)
-unread bytes was after (Err e) Says stop a b c read h says =
-    subst (λ (s : Stop Fault). PageMade bytes (Err s)) (sym (says e h)) (not_read e (turned_down bytes was after e (same_rooms was a b c) read) refl)
+pub unread : (bytes : List ℕ) (was after : Tables) (r : Result Site SiteRefusal) (Says : SiteRefusal → Type 0) (fault : Fault) → length was.lanes ≡ 1024 → length was.tariff ≡ 256 → length was.carts ≡ 6 → SiteRead bytes was after r → MatchResult r (λ site. ◌≡◌ {A = Result Site Fault} (Err fault) (Ok site)) Says → ((e : SiteRefusal) → Says e → fault ≡ Unread e) → PageMade bytes (Err (Declined fault))
+unread bytes was after (Ok site) Says fault a b c read h says = let z : ◌≡◌ {A = ℕ} 0 1 = cc in absurd (omega arith)
+unread bytes was after (Err e) Says fault a b c read h says =
+    subst (λ (f : Fault). PageMade bytes (Err (Declined f))) (sym (says e h)) (not_read e (turned_down bytes was after e (same_rooms was a b c) read) refl)
 
 -- a site that was read
-pub opened : (bytes : List ℕ) (was after : Tables) (r : Result Site SiteRefusal) (Says : SiteRefusal → Type 0) (site : Site) → SiteRead bytes was after r → MatchResult r (λ s. ◌≡◌ {A = Result Site (Stop Fault)} (Ok site) (Ok s)) Says → true ≡ is_ok r → Opened bytes was after site
+pub opened : (bytes : List ℕ) (was after : Tables) (r : Result Site SiteRefusal) (Says : SiteRefusal → Type 0) (site : Site) → SiteRead bytes was after r → MatchResult r (λ s. ◌≡◌ {A = Result Site Fault} (Ok site) (Ok s)) Says → true ≡ is_ok r → Opened bytes was after site
 opened bytes was after (Ok s) Says site read h ok = let is : s ≡ site = cc in subst (λ (t : Site). Opened bytes was after t) is read
 opened bytes was after (Err e) Says site read h ok = absurd (false≢true (sym ok))
 

@@ -59,9 +59,7 @@ impl<F: Floor, C: CostKind> PageWriter<'_, F, C> {
             constraints: &[],
             cart,
         };
-        let count = count_offers(&query, self.rows.as_mut_slice()).map_err(|_| Stop::Refused(
-            Fault::ManyLabels,
-        ))?;
+        let count = count_offers(&query, self.rows.as_mut_slice()).map_err(|_| Fault::ManyLabels)?;
         let line = format!(in heap; "OF {cart} {count}\n")?;
         out.extend_from_slice(line.as_bytes())?;
         for number in 0..count {

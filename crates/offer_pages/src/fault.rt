@@ -1,6 +1,8 @@
 ghost use Rattle.std.specs.Prelude.{◌≡◌, Some};
 ghost use Rattle.offer_pages.specs.Faults.{fault_numbers, fault_text};
+ghost use Rattle.pages.specs.declared.stop.Stop.TheVariants.{Refused};
 
+use pages::Stop;
 use sites::SiteRefusal;
 use std::fmt;
 
@@ -30,6 +32,14 @@ impl Fault {
             Fault::NoLine => [10, 0, 0, 0],
             Fault::ManyLabels => [14, 0, 0, 0],
         }
+    }
+}
+
+impl From<Fault> for Stop<Fault> {
+    ghost from_gives = { λ fault stop. stop ≡ Refused fault };
+
+    fn from(fault: Fault) -> Stop<Fault> {
+        Stop::Refused(fault)
     }
 }
 

@@ -2,7 +2,7 @@ ghost use Rattle.std.specs.Prelude.{◌≤◌, length};
 ghost use Rattle.offer_pages.specs.Carts.{PageAdded};
 ghost use Rattle.offer_pages.specs.Views.{meant};
 
-use crate::checks::{lines_there, on_floor};
+use crate::checks::check;
 use crate::fault::Fault;
 use crate::view::SiteView;
 use crate::writer::PageWriter;
@@ -35,19 +35,11 @@ pub fn page_of<F: Floor, C: CostKind>(
     requires few { length site.now.carts.now ≤ 6 }
     ensures { PageAdded C.Text.text (meant F.Floor.moves C.CostKind.kind site.now) result }
 {
-    if site.carts.is_empty() {
-        return Err(Stop::Refused(Fault::NoCart));
-    }
-    if !on_floor(site) {
-        return Err(Stop::Refused(Fault::OffFloor));
-    }
-    if !lines_there(site) {
-        return Err(Stop::Refused(Fault::NoLine));
-    }
+    check(site)?;
     let mut writer = PageWriter {
         site,
         rows: vec![in heap; LabelRow::<C>::blank(); 2048]?,
-        places: vec![in heap; 0u8; site.horizon as usize + 1]?,
+        places: vec![in heap; 0u8; usize::from(site.horizon) + 1]?,
     };
     writer.write_page(heap)
 }

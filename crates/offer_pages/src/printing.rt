@@ -6,9 +6,9 @@ use crate::fault::Fault;
 use crate::page::page_of;
 use crate::view::SiteView;
 use carts::Cart;
-use costs::{Pair, Total, Worst};
+use costs::{CostKind, Pair, Total, Worst};
 use floors::LaneRow;
-use pages::Stop;
+use pages::{Stop, or_line};
 use sites::read_site;
 use std::alloc::{AllocError, Global};
 
@@ -21,18 +21,13 @@ fn make_page(bytes: &[u8], heap: Global) -> Result<Vec<u8>, Stop<Fault>>
         to: 0,
         line: 0,
     }; 1024];
-    let mut tariff = [Pair {
-        first: Total { value: 0 },
-        second: Worst { value: 0 },
-    }; 256];
+    let mut tariff = [Pair::<Total, Worst>::zero(); 256];
     let mut carts = [Cart { start: 0, goal: 0 }; 6];
-    let site = read_site(bytes, &mut lanes, &mut tariff, &mut carts).map_err(
-        |refusal| Stop::Refused(Fault::Unread(refusal)),
-    )?;
+    let site = read_site(bytes, &mut lanes, &mut tariff, &mut carts).map_err(Fault::Unread)?;
     let view = SiteView {
         floor: &site.floor,
         tariff: &tariff[..site.tariff],
-        carts: &carts[..site.draft.carts() as usize],
+        carts: &carts[..usize::from(site.draft.carts())],
         horizon: site.draft.horizon(),
     };
     page_of(&view, heap)
@@ -44,9 +39,5 @@ pub fn offer_page(bytes: &[u8], heap: Global) -> Result<Vec<u8>, AllocError>
     ensures printed { IfOk result (λ v. Printed bytes.now v.items) }
     ensures one_print { OnePrint }
 {
-    // no `or_else`: its closure would hold both `?`
-    match make_page(bytes, heap) {
-        Ok(page) => Ok(page),
-        Err(stop) => Ok(stop.refusal()?.to_string(heap)?.into_bytes()),
-    }
+    Ok(or_line(make_page(bytes, heap), heap)?.unwrap_or_else(String::into_bytes))
 }

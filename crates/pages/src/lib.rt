@@ -8,4 +8,4 @@ mod tests;
 
 pub use input::{MOST_BYTES, read_input};
 pub use lines::push_line;
-pub use stop::Stop;
+pub use stop::{Stop, or_line};

@@ -1,7 +1,9 @@
 ghost use Rattle.std.specs.Prelude.{◌≡◌, IfOk, IfErr};
+ghost use Rattle.pages.specs.Stops.{Told};
 ghost use Rattle.pages.specs.declared.stop.Stop.TheVariants.{Memory, Refused};
 
-use std::alloc::{AllocError, AllocFailed};
+use std::alloc::{AllocError, AllocFailed, Global};
+use std::fmt::Display;
 
 // What ends the work on a page early: memory is wanting, or the input is refused.
 #[derive(Clone, Copy, PartialEq, Eq, Debug)]
@@ -36,5 +38,19 @@ impl<R, T: Drop> From<AllocFailed<T>> for Stop<R> {
 
     fn from(_e: AllocFailed<T>) -> Stop<R> {
         Stop::Memory
+    }
+}
+
+// What was made, or a line on why it is refused; it fails only for want of memory.
+pub fn or_line<V: Drop, R: Display + Copy>(
+    made: Result<V, Stop<R>>,
+    heap: Global,
+) -> Result<Result<V, String>, AllocError>
+    ensures { IfOk result (Told R.Display.output made) }
+{
+    // no `or_else`: its closure would hold both `?`
+    match made {
+        Ok(page) => Ok(Ok(page)),
+        Err(stop) => Ok(Err(stop.refusal()?.to_string(heap)?)),
     }
 }

@@ -1,4 +1,4 @@
-use crate::{MOST_BYTES, Stop, push_line, read_input};
+use crate::{MOST_BYTES, Stop, or_line, push_line, read_input};
 use costs::{Total, Worst};
 use std::alloc::AllocError;
 use std::io;
@@ -27,4 +27,15 @@ fn a_stop_is_a_refusal_or_for_want_of_memory(rt: HostRuntime) {
     assert!(rt; Stop::Refused(7).refusal() == Ok(7));
     assert!(rt; Stop::<u8>::Memory.refusal() == Err(AllocError));
     assert!(rt; Stop::<u8>::from(AllocError) == Stop::Memory);
+}
+
+#[test]
+fn a_refusal_is_told_in_a_line(rt: HostRuntime) -> Result<(), Fail> {
+    let line = or_line::<u8, u8>(Err(Stop::Refused(7)), rt.alloc())?
+        .err()
+        .ok_or(Fail::new("no line for a refusal"))?;
+    assert_eq!(rt; line.as_str(), "7");
+    assert!(rt; or_line::<u8, u8>(Ok(5), rt.alloc())?.is_ok_and(|made| made == 5));
+    assert!(rt; or_line::<u8, u8>(Err(Stop::Memory), rt.alloc()).is_err());
+    Ok(())
 }

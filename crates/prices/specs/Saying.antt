@@ -22,10 +22,6 @@ module _ {C : Type 0} (line : C → List ℕ) where
   said_more input rest bytes below cs ds c was splits reads more =
       was ∙ ap (λ t. said line cs ++ t) (splits ∙ ap (λ t. t ++ (10 ∷ below)) reads) ∙ said_push cs c below ∙ ap (λ t. said line t ++ below) (sym more)
 
-  -- no line is left
-  pub said_all : (input rest : List ℕ) (cs : List C) → input ≡ said line cs ++ rest → length rest ≡ 0 → input ≡ said line cs
-  said_all input rest cs was none = was ∙ ap (λ t. said line cs ++ t) (nil_from_length rest none) ∙ append-nil (said line cs)
-
 pub shorter : (bytes below : List ℕ) → length below < length (bytes ++ (10 ∷ below))
 shorter bytes below = omega (arith, length-append bytes (10 ∷ below))
 

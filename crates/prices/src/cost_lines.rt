@@ -30,10 +30,11 @@ impl Priced for Pair<Total, Worst> {
         let (left, right) = split_once(bytes, b' ').ok_or(ReadFault::Malformed)?;
         let (total, worst) = both(
             read_number(left, u32::MAX),
-            read_number(right, u16::MAX as u32),
+            read_number(right, u32::from(u16::MAX)),
         )?;
         Ok(Pair {
             first: Total { value: total },
+            // it was read as at most `u16::MAX`
             second: Worst {
                 value: worst as u16,
             },

@@ -12,7 +12,7 @@ use crate::reading::read_list;
 use crate::refusal::{Fault, Refusal};
 use costs::CostKind;
 use fronts::{Row, front_of};
-use pages::{MOST_BYTES, Stop};
+use pages::{MOST_BYTES, Stop, or_line};
 use std::alloc::{AllocError, Global};
 
 // The front of the given rows.
@@ -48,9 +48,5 @@ pub(crate) fn answer_list<C: Priced>(
 ) -> Result<Result<Vec<u8>, String>, AllocError>
     ensures { IfOk result (λ a. Answers C.Priced.line C.Priced.large C.Text.text C.CostKind.kind input.now (output a)) }
 {
-    // no `or_else`: its closure would hold both `?`
-    match make_page::<C>(input, heap) {
-        Ok(page) => Ok(Ok(page)),
-        Err(stop) => Ok(Err(stop.refusal()?.to_string(heap)?)),
-    }
+    or_line(make_page::<C>(input, heap), heap)
 }

@@ -15,11 +15,9 @@ pub(crate) fn read_list<C: Priced>(input: &[u8], heap: Global) -> Result<Vec<Row
     let mut rest = input;
     while let Some((bytes, below)) = split_once(rest, b'\n') {
         let line = rows.len() + 1;
-        let cost = C::read_line(bytes).map_err(|fault| {
-            Stop::Refused(Refusal {
-                line,
-                fault: Fault::Line(fault),
-            })
+        let cost = C::read_line(bytes).map_err(|fault| Refusal {
+            line,
+            fault: Fault::Line(fault),
         })?;
         rows.push(Row { cost, tag: 0 })?;
         rest = below;

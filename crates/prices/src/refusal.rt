@@ -1,7 +1,9 @@
-ghost use Rattle.std.specs.Prelude.{Some};
+ghost use Rattle.std.specs.Prelude.{◌≡◌, Some};
+ghost use Rattle.pages.specs.declared.stop.Stop.TheVariants.{Refused};
 ghost use Rattle.prices.specs.Refusals.{fault_text, refusal_text};
 
 use digits::ReadFault;
+use pages::Stop;
 use std::fmt;
 
 // Why no page is printed.
@@ -32,6 +34,14 @@ impl fmt::Display for Fault {
 pub struct Refusal {
     pub line: usize,
     pub fault: Fault,
+}
+
+impl From<Refusal> for Stop<Refusal> {
+    ghost from_gives = { λ refusal stop. stop ≡ Refused refusal };
+
+    fn from(refusal: Refusal) -> Stop<Refusal> {
+        Stop::Refused(refusal)
+    }
 }
 
 // The refusal in one line.

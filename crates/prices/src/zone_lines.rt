@@ -10,8 +10,8 @@ fn hex_value(byte: u8) -> Option<u64>
     ensures { HexRead byte result }
 {
     match byte {
-        b'0'..=b'9' => Some((byte - b'0') as u64),
-        b'a'..=b'f' => Some((byte - b'a') as u64 + 10),
+        b'0'..=b'9' => Some(u64::from(byte - b'0')),
+        b'a'..=b'f' => Some(u64::from(byte - b'a') + 10),
         _ => None,
     }
 }
@@ -27,6 +27,7 @@ impl Priced for Zones {
         if bytes.len() != 16 {
             return Err(ReadFault::Malformed);
         }
+        // by hand: `from_str_radix` takes a plus and capitals too, so each byte would be looked at all the same, and then read once more
         let mut bits: u64 = 0;
         for b in bytes {
             let digit = hex_value(*b).ok_or(ReadFault::Malformed)?;

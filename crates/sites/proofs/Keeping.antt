@@ -31,11 +31,3 @@ module _ (places : ℕ) (lanes : List LaneRow) (row : LaneRow) (moves : List (Li
   pub lane_counted : none ≡ row_refusal moves row → lane_count (extended moves row.from (row_move row ∷ [])) ≡ length (lanes ++ row ∷ [])
   lane_counted e =
       count_extended moves row.from (row_move row) (fits_from moves row (passed _ _ e)) ∙ ap (λ n. n + 1) counted ∙ sym (length_push lanes row)
-
-  pub lane_refused : (why : FloorRefusal) → some (numbered why) ≡ row_refusal moves row → lane_fault places lanes row ≡ Some (Floor why)
-  lane_refused BadSize e = let z : ◌≡◌ {A = ℕ} 6 7 = ap (λ (p : ℕ × List ℕ). p.0) (failed _ _ _ e).1 in absurd (omega arith)
-  lane_refused (BadRow n) e =
-      let told = failed _ _ _ e in
-      let number : n ≡ lane_count moves = ap (λ (p : ℕ × List ℕ). get_or p.1 0 0) told.1 in
-      cond-false (lane_fits (lane_moves places lanes) row) _ _ (ap (λ ms. lane_fits ms row) (sym so_far) ∙ told.0)
-      ∙ ap (λ m. Some (Floor (BadRow m))) (sym (number ∙ counted))

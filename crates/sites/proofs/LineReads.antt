@@ -14,11 +14,15 @@ use Rattle.digits.specs.declared.numbers.ReadFault.TheVariants.{Malformed, TooLa
 use Rattle.digits.specs.Numbers.{NumberRead}
 use Rattle.digits.proofs.NumberReads.{decimal_base_ten, digits_own}
 use Rattle.sites.specs.Records.{numbers_text}
-use Rattle.sites.specs.Reading.{Ended}
-use Rattle.sites.proofs.Texts.{Stops, split_digits, from_zero}
+use Rattle.sites.specs.Reading.{Ended, ReadAs}
+use Rattle.std.specs.Bool.{then_some}
+use Rattle.std.specs.Result.{OkIff}
+use Rattle.std.proofs.lemmas.Bool.Decides.{nat_tests}
+use Rattle.sites.proofs.Texts.{Stops, split_digits}
+use Rattle.costs.specs.TextLaws.{from_zero}
 
 -- what the number reader refuses is the text of no number of at most 65,535
-pub no_number : (bs : List ℕ) (f : ReadFault) → NumberRead 65535 bs (Err f) → (n : ℕ) → n ≤ 65535 → bs ≡ decimal n → ⊥
+pub no_number : (bs : List ℕ) (f : ReadFault) → NumberRead 4294967295 bs (Err f) → (n : ℕ) → n ≤ 65535 → bs ≡ decimal n → ⊥
 no_number bs Malformed h n small e = h (subst (λ (t : List ℕ). Rattle.digits.specs.Numbers.BaseTen t) (sym e) (decimal_base_ten n (omega arith)))
 no_number bs TooLarge h n small e = let v = digits_value-decimal digits_own n (omega arith) in let w = ap (digits_value 10) e in omega (arith, h.1)
 
@@ -161,7 +165,25 @@ module _ (bytes rest : List ℕ) (count : ℕ) (read : List ℕ) (k : ℕ) (h : 
       go [] c t = omega (arith, ap length t)
       go (m ∷ ms) c t = omega arith
 
+  -- what is read when all are, where the bytes have to end there
+  pub all_read : count ≤ k → (b : Bool) → b ≡ eqb (length rest) 0 → ReadAs numbers_text (λ ns. (length ns ≡ count) × AllByRecursion (λ n. n ≤ 65535) ns) bytes (then_some b read)
+  all_read end true e = whole_read end (eqb-true (length rest) 0 (sym e))
+  all_read end false e = more_left end (grind (arith, nat_tests))
+
 -- the same, where the refusal is only a `None`
-pub number_unread : (bs : List ℕ) (r : Result ℕ ReadFault) → NumberRead 65535 bs r → None ≡ result_ok r → (n : ℕ) → n ≤ 65535 → bs ≡ decimal n → ⊥
+pub number_unread : (bs : List ℕ) (r : Result ℕ ReadFault) → NumberRead 4294967295 bs r → None ≡ result_ok r → (n : ℕ) → n ≤ 65535 → bs ≡ decimal n → ⊥
 number_unread bs (Ok n) h e = cc
 number_unread bs (Err f) h e = no_number bs f h
+
+pub number_told : (bs : List ℕ) (r : Result ℕ ReadFault) (v : ℕ) → NumberRead 4294967295 bs r → Some v ≡ result_ok r → (bs ≡ decimal v) × (v ≤ 4294967295)
+number_told bs (Ok n) v h e = let same : n ≡ v = cc in (h.0 ∙ ap decimal same, omega (arith, h.1, same))
+number_told bs (Err f) v h e = let z : ◌≡◌ {A = ℕ} 0 1 = cc in absurd (omega arith)
+
+-- a number that was read, where it is one of those looked for
+pub number_within : {E : Type 0} (bs : List ℕ) (v : ℕ) (made : Result ℕ E) → (bs ≡ decimal v) × (v ≤ 4294967295) → OkIff made (v < 65536) v → ReadAs decimal (λ n. n ≤ 65535) bs (result_ok made)
+number_within bs v (Ok w) read h = (omega (arith, h.0, h.1), read.0 ∙ ap decimal (sym h.1))
+number_within bs v (Err e) read large = λ n few same.
+    let one = ap (digits_value 10) (sym read.0 ∙ same) in
+    let a = digits_value-decimal digits_own v (omega (arith, read.1)) in
+    let b = digits_value-decimal digits_own n (omega arith) in
+    large (omega (arith, one, a, b))

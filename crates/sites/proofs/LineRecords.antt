@@ -7,7 +7,7 @@ use Rattle.digits.specs.Splits.{Without}
 use Rattle.sites.specs.declared.records.Record.{Record}
 use Rattle.sites.specs.declared.records.Record.TheVariants.{Horizon, Places, Lane, BothLanes, Tariff, Cart}
 use Rattle.sites.specs.Records.{mark_first, mark_second, numbers, numbers_text, line_text, record_text, Fitting}
-use Rattle.sites.proofs.Texts.{from_zero}
+use Rattle.costs.specs.TextLaws.{from_zero}
 use Rattle.sites.proofs.LineReads.{until, not_without}
 
 -- no line has a newline in it

@@ -8,6 +8,7 @@ use Rattle.floors.specs.declared.lane_row.LaneRow.{LaneRow}
 use Rattle.sites.specs.declared.records.Record.{Record}
 use Rattle.sites.specs.declared.records.Record.TheVariants.{Horizon, Places, Lane, BothLanes, Tariff, Cart}
 use Rattle.sites.specs.Records.{mark_first, mark_second, numbers, numbers_text, record_text, records_text, Fitting}
+use Rattle.costs.specs.TextLaws.{from_zero}
 
 -- what does not go on with a digit
 abbrev pub Stops : List ℕ → Type 0
@@ -26,9 +27,6 @@ split_digits (x ∷ xs) (y ∷ ys) u v p q s t e =
     let k = split_digits xs ys u v p.1 q.1 s t tail in
     let f = k.0 in
     (cc, k.1)
-
-pub from_zero : (n : ℕ) → n < 2 ^ 64 → AllByRecursion (λ x. 48 ≤ x) (decimal n)
-from_zero = decimal_by_steps (λ n ds. AllByRecursion (λ x. 48 ≤ x) ds) (λ n h. (omega arith, tt)) (λ n ds h k. All-push (λ x. 48 ≤ x) ds (48 + n % 10) k (omega arith))
 
 stops_numbers : (ns u : List ℕ) → Stops (numbers_text ns ++ (10 ∷ u))
 stops_numbers [] u = omega arith

@@ -12,8 +12,7 @@ use floors::LaneRow;
 fn number(bytes: &[u8]) -> Option<u16>
     ensures { ReadAs decimal (λ n. n ≤ 65535) bytes.now result }
 {
-    let value = read_number(bytes, 65_535).ok()?;
-    Some(value as u16)
+    u16::try_from(read_number(bytes, u32::MAX).ok()?).ok()
 }
 
 // Where the first space stands, or where the bytes end.
@@ -44,7 +43,7 @@ fn numbers<const N: usize>(bytes: &[u8]) -> Option<[u16; N]>
         *number = value;
         rest = below;
     }
-    if rest.is_empty() { Some(numbers) } else { None }
+    rest.is_empty().then_some(numbers)
 }
 
 // The record that a line holds, its newline left out.

@@ -9,6 +9,7 @@ use carts::Cart;
 use costs::{Pair, Total, Worst};
 use floors::LaneRow;
 
+// the number of `pages::MOST_BYTES`, above which crate this one does not stand
 const MOST_BYTES: usize = 16_384;
 
 // The site that the bytes say, with its lanes, tariff lines and carts in the first rows of the tables; or the first line that is not read.
@@ -30,7 +31,7 @@ pub fn read_site(
         carts: carts.len(),
     };
     let reading = read_records(bytes, rooms)?;
-    let count = reading.site.draft.carts() as usize;
+    let count = usize::from(reading.site.draft.carts());
     write_rows(bytes, lanes, tariff);
     carts[..count].copy_from_slice(&reading.carts[..count]);
     Ok(reading.site)

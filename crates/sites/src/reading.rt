@@ -8,7 +8,7 @@ mod taking;
 #[derive(Drop)]
 pub struct Reading {
     pub site: Site,
-    // no heap here: as many rows as a draft may enter, and the draft counts those in use
+    // as many rows as a draft may enter; the draft counts those in use, so an `ArrayVec` would count them a second time
     pub carts: [Cart; 6],
     // the last record's
     pub rank: Rank,

@@ -48,6 +48,7 @@ fn write_record(
             lanes.push(row);
             lanes.push(back(row));
         }
+        // by `as`: of a row made by `u32::from` the proof does not close
         Record::Tariff { total, worst } => tariff.push(Pair {
             first: Total {
                 value: total as u32,

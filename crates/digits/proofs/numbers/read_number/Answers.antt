@@ -1,29 +1,33 @@
-use Rattle.std.proofs.Common.{◌≡◌, ℕ, ◌+◌, ◌-◌, ◌*◌, ◌^◌, ◌<◌, List, length, get_or, take, decimal, sym, refl, ap, ◌∙◌, arith}
-use Rattle.std.specs.Str.Parse.{digits_value}
-use Rattle.std.proofs.lemmas.List.{take_all}
-use Rattle.digits.specs.Numbers.{BaseTen}
-use Rattle.digits.proofs.NumberReads.{value_next, front_value_le, decimal_of_value}
+use Rattle.std.proofs.Common.{length, ◌≡◌, ℕ, ◌<◌, ◌^◌, List, Ok, Err, IsOk, Result, decimal, sym, refl, ap, ◌∙◌, subst, arith, rules}
+use Rattle.std.specs.List.{AllByRecursion}
+use Rattle.std.specs.Int.{IsInRange}
+use Rattle.std.specs.Str.{IsUtf8}
+use Rattle.std.specs.Str.Parse.{digits_value, ParsesUnsigned}
+use Rattle.std.specs.Result.{OkIff}
+use Rattle.std.proofs.lemmas.Str.{IsUtf8-from_ascii}
+use Rattle.std.proofs.lemmas.Str.Parse.{parse_digits}
+use Rattle.digits.specs.Numbers.{BaseTen, NumberRead}
+use Rattle.digits.proofs.NumberReads.{digits_read, digits_utf8, decimal_of_value}
 use Rattle.digits.proofs.numbers.read_number.Goals as goal
 
-next_value : (bs : List ℕ) (i v : ℕ) → BaseTen bs → i < length bs → v ≡ digits_value 10 (take i bs) → v * 10 + (get_or bs i 0 - 48) ≡ digits_value 10 (take (i + 1) bs)
-next_value bs i v ten h e = ap (λ n. n * 10 + (get_or bs i 0 - 48)) e ∙ sym (value_next bs i h ten.0)
+pub unwrap-requires : goal.unwrap-requires
+unwrap-requires c =
+    let utf8 : IsUtf8 c.args.bytes.now = digits_utf8 c.args.bytes.now (c.if-not-base_ten.ensures.0 refl).0 in
+    search rules
 
-pub returns-then-next-most : goal.returns-then-next-most
-returns-then-next-most c =
-    let bs = c.args.bytes.now in
-    let i = c.loop-b.b-index in
-    let ten : BaseTen bs = c.if-not-base_ten.ensures.0 refl in
-    (ten, omega (arith, next_value bs i c.loop-b.value ten c.loop-b-test.true c.loop-b.invariant.0, front_value_le bs (i + 1)))
-
-pub loop-b-preserved : goal.loop-b-preserved
-loop-b-preserved c =
-    let ten : BaseTen c.args.bytes.now = c.if-not-base_ten.ensures.0 refl in
-    (next_value c.args.bytes.now c.loop-b.b-index c.loop-b.value ten c.loop-b-test.true c.loop-b.invariant.0, omega arith)
-
-pub returns : goal.returns
-returns c =
+pub returns-in-Ok : goal.returns-in-Ok
+returns-in-Ok c =
     let bs = c.args.bytes.now in
     let ten : BaseTen bs = c.if-not-base_ten.ensures.0 refl in
-    let e : c.loop-b.value ≡ digits_value 10 bs = c.loop-b.invariant.0 ∙ ap (digits_value 10) (take_all c.loop-b.b-index bs (omega arith)) in
-    let small : digits_value 10 bs < 2 ^ 64 = omega arith in
-    (decimal_of_value bs ten small ∙ ap decimal (sym e), c.loop-b.invariant.1)
+    let text : c.unwrap.result.now ≡ bs = search rules in
+    let read = subst (λ r. OkIff r ((0 < length bs) × (digits_value 10 bs < 2 ^ 32)) (digits_value 10 bs)) c.in-Ok.is (digits_read bs c.unwrap.result.now c.parse.result text ten c.parse.ensures.value.0) in
+    (decimal_of_value bs ten (omega (arith, read.0.1)) ∙ ap decimal (sym read.1), c.if-value-most.true)
+
+pub returns-in_default-2 : goal.returns-in_default-2
+returns-in_default-2 c =
+    let bs = c.args.bytes.now in
+    let ten : BaseTen bs = c.if-not-base_ten.ensures.0 refl in
+    let text : c.unwrap.result.now ≡ bs = search rules in
+    let read = subst (λ r. OkIff r ((0 < length bs) × (digits_value 10 bs < 2 ^ 32)) (digits_value 10 bs)) c.in_default.is (digits_read bs c.unwrap.result.now c.parse.result text ten c.parse.ensures.value.0) in
+    let large : digits_value 10 bs < 2 ^ 32 → ⊥ = λ small. read (ten.1, small) in
+    (ten, omega (arith, large, c.ranges.most.fits))

@@ -17,6 +17,6 @@ returns g c =
     let n = c.move_count.result in
     let cases = cases_from_all _ _ c.all.result Pays (λ x. Pays x → ⊥) c.all.ensures.ran (YieldsList-from_range 0 n n refl (omega arith)) (λ x q called. search rules) (λ x q called. search rules) in
     let each = all_in_range Pays n c.all.result cases in (
-      λ e. recursion_from_All Below ms (All-from_get_or Below ms none (λ k h. let p = each.0 e k (omega (arith, c.move_count.ensures, h)) in subst Below (sym ((at_place ms k p.0 p.1).1 none)) p.2)),
+      λ e. recursion_from_All Below ms (All-from_get_or Below ms none (λ k h. let p = each.0 e k (omega (arith, c.move_count.ensures, h)) in rw ((at_place ms k p.0 p.1).1 none) p.2)),
       λ all. each.1 (λ k h. let within : k < length ms = omega (arith, c.move_count.ensures, h) in (get_or ms k none, at_getD ms k none within, All-from_recursion Below ms all k none within)),
     )

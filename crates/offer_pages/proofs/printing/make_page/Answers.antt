@@ -12,5 +12,5 @@ returns-in_err-site c =
 pub returns : goal.returns
 returns c =
     let read = opened c.args.bytes.now _ _ c.read_site.result _ c.in_ok-site.site c.read_site.ensures c.in_ok-site.ensures.cases c.in_ok-site.ensures.variant in
-    page_read c.args.bytes.now _ _ c.in_ok-site.site c.page_of.result c.carts.result c.horizon.result read
-    refl refl refl (c.carts.ensures ∙ read.holds.carts) (c.horizon.ensures ∙ read.holds.horizon) c.page_of.ensures
+    page_read c.args.bytes.now _ _ c.in_ok-site.site c.page_of.result c.from.result c.horizon.result read
+    refl refl refl (c.from.ensures ∙ c.carts.ensures ∙ read.holds.carts) (c.horizon.ensures ∙ read.holds.horizon) c.page_of.ensures

@@ -20,7 +20,7 @@ row_pushed : {C : Type 0} (was now : List (Row C)) (row : Row C) → now ≡ was
 row_pushed was now row e = ap (λ rs. costs_of (entries rs)) e ∙ ap costs_of (map_push entry_of was row) ∙ map_push (λ e. e.cost) (entries was) (entry_of row)
 
 -- what is read where no fault is
-is_read : {C : Type 0} (line : C → List ℕ) (Large : List ℕ → Type 0) (Fails : ReadFault → Type 0) (bs : List ℕ) (r : Result C ReadFault) (cost : C) → LineRead line Large bs r → MatchResult r (λ c. ◌≡◌ {A = Result C (Stop Refusal)} (Ok cost) (Ok c)) Fails → true ≡ is_ok r → bs ≡ line cost
+is_read : {C : Type 0} (line : C → List ℕ) (Large : List ℕ → Type 0) (Fails : ReadFault → Type 0) (bs : List ℕ) (r : Result C ReadFault) (cost : C) → LineRead line Large bs r → MatchResult r (λ c. ◌≡◌ {A = Result C Refusal} (Ok cost) (Ok c)) Fails → true ≡ is_ok r → bs ≡ line cost
 is_read line Large Fails bs (Ok c) cost read same ok = let is : c ≡ cost = cc in read ∙ ap line is
 is_read line Large Fails bs (Err fault) cost read same ok = absurd (false≢true (sym ok))
 

@@ -2,7 +2,6 @@ use Rattle.std.proofs.Common.{◌≡◌, ℕ, [], ◌++◌, length, None, Ok, Is
 use Rattle.std.proofs.lemmas.List.{append-nil}
 use Rattle.std.proofs.lemmas.Result.{err_from_is_err_and}
 use Rattle.labels.specs.Answers.{walk_hindrance}
-use Rattle.pages.specs.declared.stop.Stop.TheVariants.{Refused}
 use Rattle.offer_pages.specs.declared.fault.Fault.TheVariants.{ManyLabels}
 use Rattle.rules.specs.Offers.{Label, offers}
 use Rattle.offer_pages.specs.Texts.{offer_text}
@@ -17,7 +16,7 @@ returns-in_err-count-clause-added g c =
     let i = meant g.F.Floor.moves g.C.CostKind.kind me.site.now in
     let ready = lent i me.rows.items c.as_mut_slice.result.now (length me.places.items) c.as_mut_slice.ensures.value me.ready in
     let refused : IsErr c.count_offers.result = search rules in
-    let stop : c.in_err-count.field-0.0 ≡ Refused ManyLabels = search rules in
+    let stop : c.in_err-count.field-0.0 ≡ ManyLabels = search rules in
     let p = err_from_is_err_and c.from_residual.result c.from_residual.ensures.1 in
     rw (p.1, p.2, stop)
     (refl, too_many i c.args.cart (length c.as_mut_slice.result.now) (length me.places.items) ready c.requires.known c.count_offers.result (length (offers i c.args.cart [])) refused c.count_offers.ensures.counted)

@@ -26,4 +26,4 @@ returns-in_err-total c =
     let parts = subst (SplitOnce 32 c.args.bytes.now) c.in_ok-left.ensures.ok_part c.split_once.ensures in
     rw (p.1, p.2)
     (parts_unread c.args.bytes.now c.in_ok-left.left.now c.in_ok-left.right.now c.read_number.result c.read_number-2.result c.in_err-total.field-0.0
-    parts.0 parts.1 c.read_number.ensures c.read_number-2.ensures (sym c.both.ensures ∙ c.in_err-total.was))
+    parts.0 parts.1 c.read_number.ensures (rw c.from.ensures at c.read_number-2.ensures) (sym c.both.ensures ∙ c.in_err-total.was))
