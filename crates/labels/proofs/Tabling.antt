@@ -171,8 +171,10 @@ module _ {C : Type 0} (a : Asked C) where
   hold_start rows starts e = hold_none rows starts e
 
   -- the layer of a tick
-  pub laid : (layer : Layer) (n : ℕ) → n ≡ place_count a → layer.base ≡ layer.tick * n → layer.busy ≡ busy_at a layer.tick → Laid a layer
-  laid layer n e b busy = record { busy = busy; base = b ∙ ap (λ x. layer.tick * x) e ∙ sym (length_cells layer.tick) }
+  pub laid : (layer : Layer) (n : ℕ) → n ≡ place_count a → layer.base ≡ layer.tick * n → layer.busy ≡ busy_at a layer.tick → layer.tick ≤ 64 → place_count a ≤ 128 → Laid a layer
+  laid layer n e b busy le few =
+      let base : layer.base ≡ length (cells_before a layer.tick) = b ∙ ap (λ x. layer.tick * x) e ∙ sym (length_cells layer.tick) in
+      record { busy = busy; base = base; room = table_room layer.tick layer.base le few base }
 
   -- the cells of a tick, among all
   cells_split : (t h : ℕ) → t ≤ h → (more : List (List (Label C))) × (cells_before a (suc h) ≡ (cells_before a t ++ row_of a t) ++ more)

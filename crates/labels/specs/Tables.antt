@@ -1,11 +1,11 @@
 -- The tables of one cart's labels: the rows, and where each cell begins.
 -- Assumes nothing.
-use Rattle.std.specs.Prelude.{◌≡◌, ℕ, zero, suc, ◌<◌, ◌≤◌, List, [], ◌++◌, length, take, Some, None, Option}
+use Rattle.std.specs.Prelude.{◌≡◌, ℕ, zero, suc, ◌+◌, ◌<◌, ◌≤◌, List, [], ◌++◌, length, take, Some, None, Option}
 use Rattle.rules.specs.Offers.{Label, joined_lists, total_length}
 use Rattle.labels.specs.declared.layer.Layer.{Layer}
 use Rattle.labels.specs.declared.row.LabelRow.{LabelRow}
 use Rattle.charts.specs.Parts.{Marked}
-use Rattle.labels.specs.Queries.{Asked, row_of, label_total}
+use Rattle.labels.specs.Queries.{Asked, row_of, place_count, label_total}
 use Rattle.labels.specs.Rows.{shown}
 use Rattle.labels.specs.Seeking.{busy_at}
 
@@ -39,6 +39,7 @@ module _ {C : Type 0} (a : Asked C) where
   pub record Laid (layer : Layer) : Type 0 where
     pub busy : layer.busy ≡ busy_at a layer.tick
     pub base : layer.base ≡ length (cells_before a layer.tick)
+    pub room : layer.base + place_count a < 8321
 
   -- what one says of the tick before t, if there is any
   abbrev pub LaidBefore : ℕ → Option Layer → Type 0

@@ -9,6 +9,7 @@ ghost use Rattle.labels.specs.Tables.{Hold, Laid, LaidBefore, cells_before};
 use crate::allowed::{is_barred, may_be};
 use crate::cell::Cell;
 use crate::layer::Layer;
+use crate::limits::STARTS;
 use crate::open_cell::OpenCell;
 use crate::row::LabelRow;
 use crate::rows::RowsSoFar;
@@ -36,7 +37,7 @@ impl<F: Floor, C: CostKind, B: Constrains> Search<'_, F, C, B> {
         &self,
         cell: Cell,
         rows: &mut [LabelRow<C>],
-        starts: &[u16],
+        starts: &[u16; STARTS],
         n: usize,
     ) -> Option<usize>
         requires within { n ≤ length rows.old }
@@ -91,14 +92,13 @@ impl<F: Floor, C: CostKind, B: Constrains> Search<'_, F, C, B> {
         layer: Layer,
         place: u8,
         rows: &mut [LabelRow<C>],
-        starts: &[u16],
+        starts: &[u16; STARTS],
         n: usize,
     ) -> Option<usize>
         requires few { length rows.old ≤ 65535 }
         requires place { place < place_count (asked F.Floor.moves C.CostKind.kind B.Constrains.constraint self.now.query.now) }
         requires laid { Laid (asked F.Floor.moves C.CostKind.kind B.Constrains.constraint self.now.query.now) layer }
         requires laid_before { LaidBefore (asked F.Floor.moves C.CostKind.kind B.Constrains.constraint self.now.query.now) layer.tick (Some before) }
-        requires table { layer.base + place_count (asked F.Floor.moves C.CostKind.kind B.Constrains.constraint self.now.query.now) < length starts.now }
         requires held { Hold rows.old starts.now (cells_before (asked F.Floor.moves C.CostKind.kind B.Constrains.constraint self.now.query.now) layer.tick ++ take place (row_of (asked F.Floor.moves C.CostKind.kind B.Constrains.constraint self.now.query.now) layer.tick)) n }
         ensures { Grown rows.old rows.new n (slice_index_or (row_of (asked F.Floor.moves C.CostKind.kind B.Constrains.constraint self.now.query.now) layer.tick) place []) result }
     {
@@ -122,14 +122,13 @@ impl<F: Floor, C: CostKind, B: Constrains> Search<'_, F, C, B> {
         layer: Layer,
         place: u8,
         rows: &mut [LabelRow<C>],
-        starts: &[u16],
+        starts: &[u16; STARTS],
         n: usize,
     ) -> Option<usize>
         requires few { length rows.old ≤ 65535 }
         requires place { place < place_count (asked F.Floor.moves C.CostKind.kind B.Constrains.constraint self.now.query.now) }
         requires laid { Laid (asked F.Floor.moves C.CostKind.kind B.Constrains.constraint self.now.query.now) layer }
         requires laid_before { LaidBefore (asked F.Floor.moves C.CostKind.kind B.Constrains.constraint self.now.query.now) layer.tick before }
-        requires table { layer.base + place_count (asked F.Floor.moves C.CostKind.kind B.Constrains.constraint self.now.query.now) < length starts.now }
         requires held { Hold rows.old starts.now (cells_before (asked F.Floor.moves C.CostKind.kind B.Constrains.constraint self.now.query.now) layer.tick ++ take place (row_of (asked F.Floor.moves C.CostKind.kind B.Constrains.constraint self.now.query.now) layer.tick)) n }
         ensures { Grown rows.old rows.new n (slice_index_or (row_of (asked F.Floor.moves C.CostKind.kind B.Constrains.constraint self.now.query.now) layer.tick) place []) result }
     {

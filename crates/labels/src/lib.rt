@@ -9,6 +9,7 @@ mod constraints;
 mod landing;
 mod landings;
 mod layer;
+mod limits;
 mod offer;
 mod offers;
 mod open_cell;

@@ -4,6 +4,7 @@ ghost use Rattle.labels.specs.Tables.{Hold, Holding, Filled, Laid, LaidBefore, c
 
 use crate::allowed::is_busy;
 use crate::layer::Layer;
+use crate::limits::STARTS;
 use crate::query::Query;
 use crate::row::LabelRow;
 use crate::search::Search;
@@ -19,13 +20,12 @@ impl<F: Floor, C: CostKind, B: Constrains> Search<'_, F, C, B> {
         before: Option<Layer>,
         layer: Layer,
         rows: &mut [LabelRow<C>],
-        starts: &mut [u16],
+        starts: &mut [u16; STARTS],
         n: usize,
     ) -> Option<usize>
         requires few { length rows.old ≤ 65535 }
         requires laid { Laid (asked F.Floor.moves C.CostKind.kind B.Constrains.constraint self.now.query.now) layer }
         requires laid_before { LaidBefore (asked F.Floor.moves C.CostKind.kind B.Constrains.constraint self.now.query.now) layer.tick before }
-        requires table { layer.base + place_count (asked F.Floor.moves C.CostKind.kind B.Constrains.constraint self.now.query.now) < length starts.old }
         requires held { Hold rows.old starts.old (cells_before (asked F.Floor.moves C.CostKind.kind B.Constrains.constraint self.now.query.now) layer.tick) n }
         ensures { Holding rows.new starts.new (cells_before (asked F.Floor.moves C.CostKind.kind B.Constrains.constraint self.now.query.now) (suc layer.tick)) result }
     {
@@ -42,12 +42,11 @@ impl<F: Floor, C: CostKind, B: Constrains> Search<'_, F, C, B> {
 pub fn fill_labels<F: Floor, C: CostKind, B: Constrains>(
     query: &Query<'_, F, C, B>,
     rows: &mut [LabelRow<C>],
-    starts: &mut [u16],
+    starts: &mut [u16; STARTS],
 ) -> Option<usize>
     requires few { length rows.old ≤ 65535 }
     requires known { query.now.cart < length query.now.carts.now }
     requires ticks { query.now.horizon ≤ 64 }
-    requires table { length starts.old ≡ 8321 }
     ensures { Filled (asked F.Floor.moves C.CostKind.kind B.Constrains.constraint query.now) rows.new starts.new result }
 {
     let index = Index::of(query.floor);

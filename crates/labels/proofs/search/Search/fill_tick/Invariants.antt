@@ -1,4 +1,4 @@
-use Rattle.std.proofs.Common.{◌++◌, take}
+use Rattle.std.proofs.Common.{◌≡◌, ◌++◌, length, take}
 use Rattle.labels.specs.Queries.{asked, row_of}
 use Rattle.labels.specs.Tables.{Hold, cells_before}
 use Rattle.labels.proofs.search.Search.fill_tick.Given as goal
@@ -6,4 +6,4 @@ use Rattle.labels.proofs.search.Search.fill_tick.Given as goal
 abbrev pub invariant-loop-place : goal.invariant-loop-place
 invariant-loop-place g l =
     let a = asked g.F.Floor.moves g.C.CostKind.kind g.B.Constrains.constraint l.self.query.now in
-    Hold l.rows l.starts (cells_before a l.layer.tick ++ take l.place (row_of a l.layer.tick)) l.n
+    record { long : length l.starts ≡ 8321; held : Hold l.rows l.starts (cells_before a l.layer.tick ++ take l.place (row_of a l.layer.tick)) l.n }

@@ -1,4 +1,4 @@
-use Rattle.std.proofs.Common.{false, true, length, take, subst}
+use Rattle.std.proofs.Common.{false, true, length, take, subst, arith}
 use Rattle.labels.specs.Cells.{Grown}
 use Rattle.labels.specs.Queries.{asked, row_of}
 use Rattle.labels.proofs.Tabling.{later_cell, runs_before, table_before, grown_none}
@@ -17,7 +17,7 @@ fill_front-requires-clause-ready g c =
     let next = c.requires.laid_before.0 in
     let base = c.requires.laid_before.1.base in
     record {
-      table = table_before a layer.tick before.tick layer.base before.base (length c.args.starts.now) next c.requires.laid.base base c.requires.table;
+      table = table_before a layer.tick before.tick layer.base before.base (length c.args.starts.now) next c.requires.laid.base base (omega (arith, c.told-starts, c.requires.laid.room));
       runs = runs_before a layer.tick before.tick before.base c.args.rows.now c.args.starts.now (take c.args.place (row_of a layer.tick)) c.args.n next base c.requires.held;
       barred = c.is_barred.ensures;
     }
