@@ -10,6 +10,7 @@ mod landing;
 mod landings;
 mod layer;
 mod limits;
+mod list;
 mod offer;
 mod offers;
 mod open_cell;

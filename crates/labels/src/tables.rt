@@ -5,6 +5,7 @@ ghost use Rattle.labels.specs.Tables.{Hold, Holding, Filled, Laid, LaidBefore, c
 use crate::allowed::is_busy;
 use crate::layer::Layer;
 use crate::limits::STARTS;
+use crate::list::LabelList;
 use crate::query::Query;
 use crate::row::LabelRow;
 use crate::search::Search;
@@ -19,22 +20,19 @@ impl<F: Floor, C: CostKind, B: Constrains> Search<'_, F, C, B> {
         &self,
         before: Option<Layer>,
         layer: Layer,
-        rows: &mut [LabelRow<C>],
+        list: &mut LabelList<C>,
         starts: &mut [u16; STARTS],
-        n: usize,
-    ) -> Option<usize>
-        requires few { length rows.old ≤ 65535 }
+    ) -> Option<()>
         requires laid { Laid (asked F.Floor.moves C.CostKind.kind B.Constrains.constraint self.now.query.now) layer }
         requires laid_before { LaidBefore (asked F.Floor.moves C.CostKind.kind B.Constrains.constraint self.now.query.now) layer.tick before }
-        requires held { Hold rows.old starts.old (cells_before (asked F.Floor.moves C.CostKind.kind B.Constrains.constraint self.now.query.now) layer.tick) n }
-        ensures { Holding rows.new starts.new (cells_before (asked F.Floor.moves C.CostKind.kind B.Constrains.constraint self.now.query.now) (suc layer.tick)) result }
+        requires held { Hold list.old.rows.now starts.old (cells_before (asked F.Floor.moves C.CostKind.kind B.Constrains.constraint self.now.query.now) layer.tick) list.old.count }
+        ensures { Holding list.old list.new starts.new (cells_before (asked F.Floor.moves C.CostKind.kind B.Constrains.constraint self.now.query.now) (suc layer.tick)) result }
     {
-        let mut n = n;
         for place in 0..self.query.floor.places() {
-            n = self.fill_cell(before, layer, place, rows, starts, n)?;
-            starts[layer.base + place as usize + 1] = n as u16;
+            self.fill_cell(before, layer, place, list, starts)?;
+            starts[layer.base + place as usize + 1] = list.count as u16;
         }
-        Some(n)
+        Some(())
     }
 }
 
@@ -56,7 +54,7 @@ pub fn fill_labels<F: Floor, C: CostKind, B: Constrains>(
     };
     let places = query.floor.places() as usize;
     starts[0] = 0;
-    let mut n = 0;
+    let mut list = LabelList::new(rows);
     let mut before = None;
     for tick in 0..query.horizon + 1 {
         let layer = Layer {
@@ -64,8 +62,9 @@ pub fn fill_labels<F: Floor, C: CostKind, B: Constrains>(
             busy: is_busy(query, tick),
             base: tick as usize * places,
         };
-        n = search.fill_tick(before, layer, rows, starts, n)?;
+        search.fill_tick(before, layer, &mut list, starts)?;
         before = Some(layer);
     }
-    Some(n)
+    // A call, and not `list.count`: only while the list still lends the rows does the proof know what they hold.
+    Some(list.len())
 }
