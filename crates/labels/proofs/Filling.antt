@@ -49,16 +49,6 @@ pub record Filling {C : Type 0} (was rows : List (LabelRow C)) (start end : ℕ)
   pub holds : shown (take end rows) ≡ shown (take start was) ++ take (end - start) es
 
 module _ {C : Type 0} where
-  pub filling_none : (rows : List (LabelRow C)) (start : ℕ) (es : List (Label C)) → start ≤ length rows → Filling rows rows start start es
-  filling_none rows start es le =
-      let e : start - start ≡ 0 = omega arith in
-      record {
-        from = omega arith;
-        within = le;
-        some = omega arith;
-        holds = sym (append-nil (shown (take start rows))) ∙ ap (λ n. shown (take start rows) ++ take n es) (sym e);
-      }
-
   long : (rows : List (LabelRow C)) (n : ℕ) → n ≤ length rows → length (shown (take n rows)) ≡ n
   long rows n le = length-shown (take n rows) ∙ length-take-le n rows le
 

@@ -55,6 +55,3 @@ module _ {C : Type 0} (a : Asked C) (cell : Cell) where
     moves_at m lt =
         at_drop_more (λ l. picked a.inst.kind skip o (by_all l)) ms n m lt
         ∙ picked-append a.inst.kind skip o (by_one a cell (get_or ms n m)) (by_all (drop (n + 1) ms))
-
-    pub moves_end : length ms ≤ n → picked a.inst.kind skip o (by_all (drop n ms)) ≡ o
-    moves_end over = at_drop_all (λ l. picked a.inst.kind skip o (by_all l)) ms n over

@@ -116,9 +116,6 @@ module _ {C : Type 0} where
       at_drop_more (λ l. picked k skip o (extended_by k price place l)) (take to ls) i d (omega arith)
       ∙ ap (λ x. picked k skip (better k skip o x) (extended_by k price place (drop (i + 1) (take to ls)))) (extended-at k rs to i r d price place lt le)
 
-  pub picked_end : (k : Kind C) (ls : List (Label C)) (to i : ℕ) (price : C) (place : ℕ) (skip : C → Bool) (o : Option (Label C)) → to ≤ i → to ≤ length ls → picked k skip o (extended_by k price place (drop i (take to ls))) ≡ o
-  picked_end k ls to i price place skip o le le' = at_drop_all (λ l. picked k skip o (extended_by k price place l)) (take to ls) i (omega (arith, length-take-le to ls le'))
-
   -- looking at whether a cost leads first changes nothing
   pub better_by : (k : Kind C) (ls : List (Label C)) (skip : C → Bool) (o : Option (LabelRow C)) (r : LabelRow C) → better k skip (shown_best ls o) (shown_row ls r) ≡ shown_best ls (cond (leads k o r.cost && not (skip r.cost)) (Some r) o)
   better_by k ls skip None r = elim (cases_Bool (skip r.cost)) [ inl e ↦ rw e | inr e ↦ rw e ]

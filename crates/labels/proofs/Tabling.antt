@@ -120,9 +120,6 @@ module _ {C : Type 0} (a : Asked C) where
       subst (λ l. Hold after (set starts (base + p + 1) m) l m) cells
       (hold_more rows after starts (before ++ take p row) (get_or row p []) (base + p + 1) n m h g size (omega arith))
 
-  pub tick_none : (t : ℕ) (rows : List (LabelRow C)) (starts : List ℕ) (n : ℕ) → Hold rows starts (cells_before a t) n → Hold rows starts (cells_before a t ++ take 0 (row_of a t)) n
-  tick_none t rows starts n h = subst (λ l. Hold rows starts l n) (sym (append-nil (cells_before a t))) h
-
   pub tick_all : (t p : ℕ) (rows : List (LabelRow C)) (starts : List ℕ) (n : ℕ) → place_count a ≤ p → Hold rows starts (cells_before a t ++ take p (row_of a t)) n → Hold rows starts (cells_before a (suc t)) n
   tick_all t p rows starts n le h = subst (λ l. Hold rows starts l n) (ap (λ l. cells_before a t ++ l) (take_all p (row_of a t) (omega (arith, length_row t))) ∙ sym (cells_on t)) h
 

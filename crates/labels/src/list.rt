@@ -1,6 +1,6 @@
 ghost use Rattle.std.specs.Prelude.{◌≤◌, length};
 
-mod pushing;
+mod methods;
 
 use crate::row::LabelRow;
 

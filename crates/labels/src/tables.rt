@@ -65,6 +65,5 @@ pub fn fill_labels<F: Floor, C: CostKind, B: Constrains>(
         search.fill_tick(before, layer, &mut list, starts)?;
         before = Some(layer);
     }
-    // A call, and not `list.count`: only while the list still lends the rows does the proof know what they hold.
-    Some(list.len())
+    Some(list.count)
 }

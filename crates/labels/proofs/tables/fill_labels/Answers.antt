@@ -49,6 +49,5 @@ returns g c =
     let list = c.loop-tick.list in
     let same = c.loop-tick.invariant.same in
     let e : c.loop-tick.tick ≡ suc a.inst.horizon = omega (arith, c.loop-tick-test.false, c.loop-tick.auto) in
-    subst (λ rs. Filled a rs c.loop-tick.starts (Some c.len.result)) (search (rules, same))
-    (subst (λ n. Filled a list.rows.now c.loop-tick.starts (Some n)) (sym c.len.ensures)
-    (ticks_all a c.loop-tick.tick list.count list.rows.now c.loop-tick.starts e c.loop-tick.invariant.held))
+    subst (λ rs. Filled a rs c.loop-tick.starts (Some list.count)) (search (rules, same))
+    (ticks_all a c.loop-tick.tick list.count list.rows.now c.loop-tick.starts e c.loop-tick.invariant.held)

@@ -19,13 +19,6 @@ impl<'a, C: CostKind> LabelList<'a, C> {
         LabelList { rows, count: 0 }
     }
 
-    // How many labels it holds.
-    pub fn len(&self) -> usize
-        ensures { result ≡ self.now.count }
-    {
-        self.count
-    }
-
     // The rows so far, of which those from `start` on are of the cell that is being filled.
     pub fn so_far(&self, start: usize) -> RowsSoFar<'_, C>
         requires { start ≤ self.now.count }
