@@ -28,8 +28,3 @@ module _ {C : Type 0} where
 -- labels, one move on
 abbrev pub extended_by : {C : Type 0} → Kind C → C → ℕ → List (Label C) → List (Label C)
 extended_by k price to ls = map (λ l. record { cost = k.join l.cost price; item = to ∷ l.item }) ls
-
--- c would come before the best so far
-abbrev pub leads : {C : Type 0} → Kind C → Option (LabelRow C) → C → Bool
-leads k None c = true
-leads k (Some b) c = k.before c b.cost

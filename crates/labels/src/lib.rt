@@ -20,6 +20,7 @@ mod row;
 mod rows;
 mod search;
 mod tables;
+mod turns;
 mod walks;
 
 pub use calls::{count_labels, count_offers, take_offer};
