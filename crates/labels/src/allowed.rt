@@ -8,6 +8,7 @@ use carts::Constrains;
 use costs::CostKind;
 use floors::Floor;
 
+// What is known of a tick, `busy`, and of the moves to a place then, `barred`, is passed along: where it is false, no look among the constraints is needed.
 // Whether any constraint is on the cart at a tick.
 pub fn is_busy<F: Floor, C: CostKind, B: Constrains>(query: &Query<'_, F, C, B>, tick: u8) -> bool
     ensures { result ≡ busy_at (asked F.Floor.moves C.CostKind.kind B.Constrains.constraint query.now) tick }

@@ -1,5 +1,6 @@
 #![tactic(auto)]
 
+// Numbers are widened by `as`: of the answer of `usize::from`, as the place in a slice, each proof would first have to say what it is.
 mod allowed;
 mod arrivals;
 mod calls;

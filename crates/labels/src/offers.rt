@@ -54,6 +54,7 @@ impl<'a, C: CostKind> Arrivals<'a, C> {
     }
 
     // The labels at the goal at a tick, and the first one's row.
+    // Here and in two more contracts the tick is none after the horizon: a type of such ticks would have to be made of each tick of a range, with the same proof there.
     fn run(&self, tick: u8) -> (usize, &'a [LabelRow<C>])
         requires { tick ≤ self.now.landing.horizon }
         ensures from { result.0 ≡ slice_index self.now.starts.now (cell_of self.now.landing tick) }
@@ -124,7 +125,7 @@ impl<'a, C: CostKind> Arrivals<'a, C> {
     fn offer_after(&'a self, last: Option<C>) -> Option<Offer<'a, C>>
         ensures { Chooses C.CostKind.kind self.now last None (arrived self.now) result }
     {
-        // A loop carries the best so far from tick to tick as plainly as a `fold`.
+        // A loop carries the best so far from tick to tick as plainly as a `fold`. One over `first..=horizon` would end in two ways, each with its proof.
         let mut best = None;
         for tick in self.landing.first..self.landing.horizon + 1 {
             best = self.by_tick(tick, last, best);

@@ -56,6 +56,7 @@ pub fn fill_labels<F: Floor, C: CostKind, B: Constrains>(
     starts[0] = 0;
     let mut list = LabelList::new(rows);
     let mut before = None;
+    // A loop over `0..=query.horizon` would end in two ways, each with its proof.
     for tick in 0..query.horizon + 1 {
         let layer = Layer {
             tick,
