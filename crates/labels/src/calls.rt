@@ -4,7 +4,6 @@ ghost use Rattle.labels.specs.Answers.{refusal, hindrance, walk_hindrance, told,
 ghost use Rattle.labels.specs.Queries.{asked, label_total, offers_of};
 
 use crate::arrivals::Arrivals;
-use crate::landings::landing_of;
 use crate::limits::{MOST_ROWS, MOST_TICKS, STARTS};
 use crate::query::Query;
 use crate::refusal::LabelRefusal;
@@ -77,7 +76,7 @@ fn arrivals_of<'a, F: Floor, C: CostKind, B: Constrains>(
     Arrivals {
         rows: &rows[..end],
         starts,
-        landing: landing_of(query),
+        landing: query.landing_of(),
     }
 }
 

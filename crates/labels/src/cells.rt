@@ -6,7 +6,6 @@ ghost use Rattle.labels.specs.Queries.{asked, row_of, place_count, reaching};
 ghost use Rattle.labels.specs.Seeking.{busy_at};
 ghost use Rattle.labels.specs.Tables.{Hold, Laid, LaidBefore, cells_before};
 
-use crate::allowed::{is_barred, may_be};
 use crate::cell::Cell;
 use crate::layer::Layer;
 use crate::limits::STARTS;
@@ -46,7 +45,7 @@ impl<F: Floor, C: CostKind, B: Constrains> Search<'_, F, C, B> {
         ensures { Grown list.old list.new (slice_index_or (row_of (asked F.Floor.moves C.CostKind.kind B.Constrains.constraint self.now.query.now) 0) place []) result }
     {
         let query = self.query;
-        if place == query.carts[query.cart as usize].start && may_be(query, busy, place, 0) {
+        if place == query.carts[query.cart as usize].start && query.may_be(busy, place, 0) {
             list.push(LabelRow {
                 cost: C::zero(),
                 // goes on from no row: the rows are lent by callers, and a number keeps them small
@@ -74,13 +73,13 @@ impl<F: Floor, C: CostKind, B: Constrains> Search<'_, F, C, B> {
         ensures { Grown list.old list.new (slice_index_or (row_of (asked F.Floor.moves C.CostKind.kind B.Constrains.constraint self.now.query.now) layer.tick) place []) result }
     {
         let query = self.query;
-        if !may_be(query, layer.busy, place, layer.tick) {
+        if !query.may_be(layer.busy, place, layer.tick) {
             return Some(());
         }
         let cell = Cell {
             tick: before.tick,
             place,
-            barred: is_barred(query, before.busy, place, before.tick),
+            barred: query.is_barred(before.busy, place, before.tick),
             base: before.base,
         };
         self.fill_front(cell, list, starts)

@@ -2,7 +2,6 @@ ghost use Rattle.std.specs.Prelude.{◌≡◌, suc, ◌+◌, ◌<◌, ◌≤◌,
 ghost use Rattle.labels.specs.Queries.{asked, place_count};
 ghost use Rattle.labels.specs.Tables.{Hold, Holding, Filled, Laid, LaidBefore, cells_before};
 
-use crate::allowed::is_busy;
 use crate::layer::Layer;
 use crate::limits::STARTS;
 use crate::list::LabelList;
@@ -60,7 +59,7 @@ pub fn fill_labels<F: Floor, C: CostKind, B: Constrains>(
     for tick in 0..query.horizon + 1 {
         let layer = Layer {
             tick,
-            busy: is_busy(query, tick),
+            busy: query.is_busy(tick),
             base: tick as usize * places,
         };
         search.fill_tick(before, layer, &mut list, starts)?;
