@@ -4,7 +4,7 @@ use Rattle.std.proofs.Common.{◌≡◌, ℕ, ◌+◌, ◌-◌, ◌<◌, ◌≤�
 use Rattle.std.specs.List.{slice_get}
 use Rattle.std.proofs.lemmas.Option.{slice_get-get_or, slice_get_past}
 use Rattle.std.proofs.lemmas.Bool.{cases_lt}
-use Rattle.std.proofs.lemmas.List.{append-nil, append_assoc, take_more, take_all, length-take-le, length_push, drop_at}
+use Rattle.std.proofs.lemmas.List.{append_assoc, take_more, take_all, length-take-le, length_push, drop_at}
 use Rattle.rules.specs.Kinds.{Kind, Laws}
 use Rattle.rules.specs.Fronts.{front_of}
 use Rattle.rules.specs.Offers.{Label}

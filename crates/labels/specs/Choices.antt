@@ -1,6 +1,6 @@
 -- The labels that arrive, and how offers are chosen among them.
 -- Assumes nothing.
-use Rattle.std.specs.Prelude.{◌≡◌, ◌-◌, Bool, true, List, ◌++◌, replicate, Some, None, Option}
+use Rattle.std.specs.Prelude.{◌≡◌, ◌-◌, List, ◌++◌, replicate, Option}
 use Rattle.std.specs.List.{filter}
 use Rattle.std.specs.Option.{option_map}
 use Rattle.rules.specs.Kinds.{Kind}

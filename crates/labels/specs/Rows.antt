@@ -1,6 +1,6 @@
 -- What rows of labels say: each has a cost and a place, and goes on from an earlier row, its parent, or from none.
 -- Assumes nothing.
-use Rattle.std.specs.Prelude.{ℕ, Bool, true, List, [], ◌∷◌, ◌++◌, map, Some, None, Option, slice_index_or}
+use Rattle.std.specs.Prelude.{ℕ, List, [], ◌∷◌, ◌++◌, map, Option, slice_index_or}
 use Rattle.std.specs.Option.{option_map}
 use Rattle.rules.specs.Kinds.{Kind}
 use Rattle.rules.specs.Offers.{Label}
