@@ -4,13 +4,14 @@ use Rattle.std.proofs.Common.{◌≡◌, ℕ, ◌+◌, ◌-◌, ◌<◌, ◌≤�
 use Rattle.std.specs.List.{slice_get}
 use Rattle.std.proofs.lemmas.Option.{slice_get-get_or, slice_get_past}
 use Rattle.std.proofs.lemmas.Bool.{cases_lt}
-use Rattle.std.proofs.lemmas.List.{append-nil, append_assoc, take_more, take_all, length-take-le, length_push, drop_at}
+use Rattle.std.proofs.lemmas.List.{append_assoc, take_more, take_all, length-take-le, length_push, drop_at}
 use Rattle.rules.specs.Kinds.{Kind, Laws}
 use Rattle.rules.specs.Fronts.{front_of}
 use Rattle.rules.specs.Offers.{Label}
 use Rattle.labels.specs.declared.cell.Cell.{Cell}
 use Rattle.labels.specs.declared.row.LabelRow.{LabelRow}
-use Rattle.labels.specs.Cells.{Ready, Selects, Grown}
+use Rattle.labels.specs.Cells.{Ready, Selects}
+use Rattle.labels.specs.Lists.{Extended}
 use Rattle.charts.specs.Parts.{Part}
 use Rattle.labels.specs.Picks.{picked, last_cost, passed_over}
 use Rattle.labels.specs.Queries.{Asked, row_of}
@@ -48,16 +49,6 @@ pub record Filling {C : Type 0} (was rows : List (LabelRow C)) (start end : ℕ)
   pub holds : shown (take end rows) ≡ shown (take start was) ++ take (end - start) es
 
 module _ {C : Type 0} where
-  pub filling_none : (rows : List (LabelRow C)) (start : ℕ) (es : List (Label C)) → start ≤ length rows → Filling rows rows start start es
-  filling_none rows start es le =
-      let e : start - start ≡ 0 = omega arith in
-      record {
-        from = omega arith;
-        within = le;
-        some = omega arith;
-        holds = sym (append-nil (shown (take start rows))) ∙ ap (λ n. shown (take start rows) ++ take n es) (sym e);
-      }
-
   long : (rows : List (LabelRow C)) (n : ℕ) → n ≤ length rows → length (shown (take n rows)) ≡ n
   long rows n le = length-shown (take n rows) ∙ length-take-le n rows le
 
@@ -65,10 +56,10 @@ module _ {C : Type 0} where
   filling_cell was rows start end es le f = ap (drop start) f.holds ∙ drop_at (shown (take start was)) (take (end - start) es) start (long was start le)
 
   -- one row more
-  row_more : (rows after : List (LabelRow C)) (end m : ℕ) (r : LabelRow C) → end ≤ length rows → Grown rows after end (shown_row (shown (take end rows)) r ∷ []) (Some m) → m ≡ end + 1
+  row_more : (rows after : List (LabelRow C)) (end m : ℕ) (r : LabelRow C) → end ≤ length rows → Extended rows after end (shown_row (shown (take end rows)) r ∷ []) (Some m) → m ≡ end + 1
   row_more rows after end m r le g = omega (arith, sym (long after m g.0) ∙ ap length g.1 ∙ length_push (shown (take end rows)) (shown_row (shown (take end rows)) r), long rows end le)
 
-  filling_more : (was rows after : List (LabelRow C)) (start end m : ℕ) (es : List (Label C)) (r : LabelRow C) → Filling was rows start end es → Grown rows after end (shown_row (shown (take end rows)) r ∷ []) (Some m) → end - start < length es → take (end - start + 1) es ≡ take (end - start) es ++ shown_row (shown (take end rows)) r ∷ [] → Filling was after start m es
+  filling_more : (was rows after : List (LabelRow C)) (start end m : ℕ) (es : List (Label C)) (r : LabelRow C) → Filling was rows start end es → Extended rows after end (shown_row (shown (take end rows)) r ∷ []) (Some m) → end - start < length es → take (end - start + 1) es ≡ take (end - start) es ++ shown_row (shown (take end rows)) r ∷ [] → Filling was after start m es
   filling_more was rows after start end m es r f g some e =
       let next : m ≡ end + 1 = row_more rows after end m r f.within g in
       let on : m - start ≡ end - start + 1 = omega (arith, f.from) in
@@ -103,7 +94,7 @@ module _ {C : Type 0} (k : Kind C) (laws : Laws k) (xs : List (Label C)) (was ro
   filled_next : (r : LabelRow C) → Some (shown_row (shown (take end rows)) r) ≡ next → (end - start < length (front_of k xs)) × (take (end - start + 1) (front_of k xs) ≡ take (end - start) (front_of k xs) ++ shown_row (shown (take end rows)) r ∷ [])
   filled_next r h = nth_here (front_of k xs) (end - start) (shown_row (shown (take end rows)) r) (h ∙ selected)
 
-  pub filled_more : (r : LabelRow C) (after : List (LabelRow C)) (m : ℕ) → Some (shown_row (shown (take end rows)) r) ≡ next → Grown rows after end (shown_row (shown (take end rows)) r ∷ []) (Some m) → Filling was after start m (front_of k xs)
+  pub filled_more : (r : LabelRow C) (after : List (LabelRow C)) (m : ℕ) → Some (shown_row (shown (take end rows)) r) ≡ next → Extended rows after end (shown_row (shown (take end rows)) r ∷ []) (Some m) → Filling was after start m (front_of k xs)
   filled_more r after m h g = let n = filled_next r h in filling_more was rows after start end m (front_of k xs) r f g n.0 n.1
 
   -- what was selected, by what is known of the rows so far
@@ -117,11 +108,11 @@ module _ {C : Type 0} (k : Kind C) (laws : Laws k) (xs : List (Label C)) (was ro
       ∙ ap (λ l. picked k (passed_over k l (drop start ls)) None xs) g
 
   -- there is one row more, or none where there is no room for it
-  pub filled_on : (r : LabelRow C) (after : List (LabelRow C)) (m : ℕ) → Grown rows after end (shown_row (shown (take end rows)) r ∷ []) (Some m) → m ≡ end + 1
+  pub filled_on : (r : LabelRow C) (after : List (LabelRow C)) (m : ℕ) → Extended rows after end (shown_row (shown (take end rows)) r ∷ []) (Some m) → m ≡ end + 1
   filled_on r after m g = row_more rows after end m r f.within g
 
   pub filled_full : (r : LabelRow C) → Some (shown_row (shown (take end rows)) r) ≡ next → length was ≡ length rows → length rows < end + 1 → length was < start + length (front_of k xs)
   filled_full r h same full = omega (arith, (filled_next r h).0, f.from)
 
-  pub filled_done : None ≡ next → Grown was rows start (front_of k xs) (Some end)
+  pub filled_done : None ≡ next → Extended was rows start (front_of k xs) (Some end)
   filled_done h = (f.within, f.holds ∙ ap (λ l. shown (take start was) ++ l) (take_all (end - start) (front_of k xs) (nth_over (front_of k xs) (end - start) (record { cost = k.zero; item = [] }) (h ∙ selected))))

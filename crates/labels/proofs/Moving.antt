@@ -1,8 +1,8 @@
 -- Selecting among the candidates of a cell, move by move.
 -- Assumes nothing.
-use Rattle.std.proofs.Common.{◌≡◌, ℕ, ◌+◌, ◌<◌, ◌≤◌, Bool, eqb, List, [], ◌∷◌, ◌++◌, map, length, get_or, drop, Option, sym, refl, ap, ◌∙◌, inl, inr}
+use Rattle.std.proofs.Common.{◌≡◌, ℕ, ◌+◌, ◌<◌, Bool, eqb, List, [], ◌∷◌, ◌++◌, map, length, get_or, drop, Option, sym, refl, ap, ◌∙◌, inl, inr}
 use Rattle.std.specs.List.{range_with_len}
-use Rattle.std.proofs.lemmas.List.{append_assoc, at_drop_more, at_drop_all}
+use Rattle.std.proofs.lemmas.List.{append_assoc, at_drop_more}
 use Rattle.std.proofs.lemmas.Bool.{cases_Bool, eqb-true}
 use Rattle.rules.specs.Kinds.{Kind}
 use Rattle.rules.specs.Fronts.{Entry}
@@ -55,6 +55,3 @@ module _ {C : Type 0} (a : Asked C) (cell : Cell) where
     moves_at m lt =
         at_drop_more (λ l. picked a.inst.kind skip o (by_all l)) ms n m lt
         ∙ picked-append a.inst.kind skip o (by_one a cell (get_or ms n m)) (by_all (drop (n + 1) ms))
-
-    pub moves_end : length ms ≤ n → picked a.inst.kind skip o (by_all (drop n ms)) ≡ o
-    moves_end over = at_drop_all (λ l. picked a.inst.kind skip o (by_all l)) ms n over

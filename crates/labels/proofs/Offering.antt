@@ -13,14 +13,15 @@ use Rattle.rules.specs.Kinds.{Kind, Laws}
 use Rattle.rules.specs.Fronts.{front_of}
 use Rattle.rules.specs.Offers.{Label, joined_lists}
 use Rattle.rules.proofs.Fronts.{front_short}
+use Rattle.std.specs.Option.{option_map}
 use Rattle.labels.specs.declared.arrivals.Arrivals.{Arrivals}
 use Rattle.labels.specs.declared.landing.Landing.{Landing}
 use Rattle.labels.specs.declared.offer.Offer.{Offer}
 use Rattle.labels.specs.declared.offers.Offers.{Offers}
 use Rattle.labels.specs.declared.row.LabelRow.{LabelRow}
-use Rattle.labels.specs.Choices.{arrived, shown_offer, shown_lead, goes_first, Chooses, offers_left}
+use Rattle.labels.specs.Choices.{arrived, shown_offer, shown_lead, Chooses, offers_left}
 use Rattle.labels.specs.Landings.{cell_of, run_of, standing, landed_from}
-use Rattle.labels.specs.Picks.{undercuts, better, picked, dominated}
+use Rattle.labels.specs.Picks.{leads, undercuts, better, picked, dominated}
 use Rattle.labels.specs.Rows.{shown, trace_at}
 use Rattle.labels.proofs.Moving.{picked-append}
 use Rattle.labels.proofs.Picking.{picks_after}
@@ -85,14 +86,14 @@ module _ {C : Type 0} (k : Kind C) (c : C) (rows : List (LabelRow C)) (starts : 
 
 module _ {C : Type 0} (k : Kind C) (skip : C → Bool) where
   -- looking at whether a cost goes first changes nothing
-  better_by : (o : Option (Offer C)) (x : Offer C) → better k skip (shown_lead o) (shown_offer x) ≡ shown_lead (cond (goes_first k o x.cost && not (skip x.cost)) (Some x) o)
+  better_by : (o : Option (Offer C)) (x : Offer C) → better k skip (shown_lead o) (shown_offer x) ≡ shown_lead (cond (leads k (option_map (λ (b : Offer C). b.cost) o) x.cost && not (skip x.cost)) (Some x) o)
   better_by None x = elim (cases_Bool (skip x.cost)) [ inl e ↦ rw e | inr e ↦ rw e ]
   better_by (Some b) x = elim (cases_Bool (skip x.cost)) [
     | inl e ↦ elim (cases_Bool (k.before x.cost b.cost)) [ inl f ↦ rw (e, f) | inr f ↦ rw (e, f) ]
     | inr e ↦ elim (cases_Bool (k.before x.cost b.cost)) [ inl f ↦ rw (e, f) | inr f ↦ rw (e, f) ]
   ]
 
-  pub lead_became : (o b : Option (Offer C)) (x : Offer C) (t : Bool) → t ≡ (goes_first k o x.cost && not (skip x.cost)) → b ≡ cond t (Some x) o → better k skip (shown_lead o) (shown_offer x) ≡ shown_lead b
+  pub lead_became : (o b : Option (Offer C)) (x : Offer C) (t : Bool) → t ≡ (leads k (option_map (λ (b : Offer C). b.cost) o) x.cost && not (skip x.cost)) → b ≡ cond t (Some x) o → better k skip (shown_lead o) (shown_offer x) ≡ shown_lead b
   lead_became o b x t h is = better_by o x ∙ ap (λ z. shown_lead (cond z (Some x) o)) (sym h) ∙ ap shown_lead (sym is)
 
   module _ (s : Bor (Arrivals C)) (t : ℕ) (le : t ≤ s.now.landing.horizon) where

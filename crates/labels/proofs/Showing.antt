@@ -5,13 +5,13 @@ use Rattle.std.specs.Option.{option_map, option_or}
 use Rattle.std.specs.List.{list_any, slice_get}
 use Rattle.std.proofs.lemmas.Bool.{cases_Bool}
 use Rattle.std.proofs.lemmas.Option.{slice_get-get_or}
-use Rattle.std.proofs.lemmas.List.{append-nil, append_assoc, length_push, length-take-le, get_or-take, get_or-map, map_push, drop-map, at_drop_more, at_drop_all}
+use Rattle.std.proofs.lemmas.List.{append-nil, append_assoc, length_push, length-take-le, get_or-take, get_or-map, map_push, drop-map, at_drop_more}
 use Rattle.rules.specs.Kinds.{Kind}
 use Rattle.rules.specs.Fronts.{covered}
 use Rattle.rules.specs.Offers.{Label}
 use Rattle.labels.specs.declared.row.LabelRow.{LabelRow}
-use Rattle.labels.specs.Picks.{better, picked, last_cost}
-use Rattle.labels.specs.Rows.{shown_row, shown_from, shown, shown_best, extended_by, leads}
+use Rattle.labels.specs.Picks.{leads, better, picked, last_cost}
+use Rattle.labels.specs.Rows.{shown_row, shown_from, shown, shown_best, extended_by}
 
 module _ {C : Type 0} where
   push_from : (ls : List (Label C)) (rs : List (LabelRow C)) (r : LabelRow C) → shown_from ls (rs ++ r ∷ []) ≡ shown_from ls rs ++ shown_row (shown_from ls rs) r ∷ []
@@ -116,11 +116,8 @@ module _ {C : Type 0} where
       at_drop_more (λ l. picked k skip o (extended_by k price place l)) (take to ls) i d (omega arith)
       ∙ ap (λ x. picked k skip (better k skip o x) (extended_by k price place (drop (i + 1) (take to ls)))) (extended-at k rs to i r d price place lt le)
 
-  pub picked_end : (k : Kind C) (ls : List (Label C)) (to i : ℕ) (price : C) (place : ℕ) (skip : C → Bool) (o : Option (Label C)) → to ≤ i → to ≤ length ls → picked k skip o (extended_by k price place (drop i (take to ls))) ≡ o
-  picked_end k ls to i price place skip o le le' = at_drop_all (λ l. picked k skip o (extended_by k price place l)) (take to ls) i (omega (arith, length-take-le to ls le'))
-
   -- looking at whether a cost leads first changes nothing
-  pub better_by : (k : Kind C) (ls : List (Label C)) (skip : C → Bool) (o : Option (LabelRow C)) (r : LabelRow C) → better k skip (shown_best ls o) (shown_row ls r) ≡ shown_best ls (cond (leads k o r.cost && not (skip r.cost)) (Some r) o)
+  pub better_by : (k : Kind C) (ls : List (Label C)) (skip : C → Bool) (o : Option (LabelRow C)) (r : LabelRow C) → better k skip (shown_best ls o) (shown_row ls r) ≡ shown_best ls (cond (leads k (option_map (λ (b : LabelRow C). b.cost) o) r.cost && not (skip r.cost)) (Some r) o)
   better_by k ls skip None r = elim (cases_Bool (skip r.cost)) [ inl e ↦ rw e | inr e ↦ rw e ]
   better_by k ls skip (Some b) r = elim (cases_Bool (skip r.cost)) [
     | inl e ↦ elim (cases_Bool (k.before r.cost b.cost)) [ inl f ↦ rw (e, f) | inr f ↦ rw (e, f) ]
@@ -128,7 +125,7 @@ module _ {C : Type 0} where
   ]
 
   -- what the best becomes
-  pub better_became : (k : Kind C) (ls : List (Label C)) (skip : C → Bool) (o b : Option (LabelRow C)) (c j : C) (n p : ℕ) (t : Bool) → c ≡ j → t ≡ (leads k o c && not (skip c)) → b ≡ cond t (Some (record { cost = c; parent = n; place = p })) o → better k skip (shown_best ls o) (shown_row ls (record { cost = j; parent = n; place = p })) ≡ shown_best ls b
+  pub better_became : (k : Kind C) (ls : List (Label C)) (skip : C → Bool) (o b : Option (LabelRow C)) (c j : C) (n p : ℕ) (t : Bool) → c ≡ j → t ≡ (leads k (option_map (λ (b : LabelRow C). b.cost) o) c && not (skip c)) → b ≡ cond t (Some (record { cost = c; parent = n; place = p })) o → better k skip (shown_best ls o) (shown_row ls (record { cost = j; parent = n; place = p })) ≡ shown_best ls b
   better_became k ls skip o b c j n p t e h is =
       ap (λ z. better k skip (shown_best ls o) (shown_row ls (record { cost = z; parent = n; place = p }))) (sym e)
       ∙ better_by k ls skip o (record { cost = c; parent = n; place = p })

@@ -11,8 +11,10 @@ use Rattle.rules.specs.Fronts.{front_of}
 use Rattle.rules.specs.Instances.{Cart as CartMeant, start_of}
 use Rattle.rules.specs.Offers.{Label, joined_lists, total_length}
 use Rattle.labels.specs.declared.layer.Layer.{Layer}
+use Rattle.labels.specs.declared.list.LabelList.{LabelList}
 use Rattle.labels.specs.declared.row.LabelRow.{LabelRow}
-use Rattle.labels.specs.Cells.{Runs, Grown}
+use Rattle.labels.specs.Cells.{Runs}
+use Rattle.labels.specs.Lists.{Extended, Lends, Grown}
 use Rattle.charts.specs.Parts.{Part}
 use Rattle.labels.specs.Queries.{Asked, row_of, place_count, may_be_at, reaching, label_total}
 use Rattle.labels.specs.Rows.{shown, shown_row, trace_at}
@@ -40,7 +42,7 @@ module _ {C : Type 0} where
       (part_at starts (shown (take n rows)) cells [] (length before + u) (h.labels ∙ sym (append-nil (joined_lists cells))) h.marks (omega (arith, all)))
 
   -- one cell more
-  hold_more : (rows after : List (LabelRow C)) (starts : List ℕ) (cells : List (List (Label C))) (cell : List (Label C)) (m n k : ℕ) → Hold rows starts cells n → Grown rows after n cell (Some k) → m ≡ length cells + 1 → m < length starts → Hold after (set starts m k) (cells ++ cell ∷ []) k
+  hold_more : (rows after : List (LabelRow C)) (starts : List ℕ) (cells : List (List (Label C))) (cell : List (Label C)) (m n k : ℕ) → Hold rows starts cells n → Extended rows after n cell (Some k) → m ≡ length cells + 1 → m < length starts → Hold after (set starts m k) (cells ++ cell ∷ []) k
   hold_more rows after starts cells cell m n k h g e lt =
       let labels : shown (take k after) ≡ joined_lists (cells ++ cell ∷ []) = g.1 ∙ ap (λ l. l ++ cell) h.labels ∙ sym (joined_push cells cell) in
       let size : k ≡ total_length (cells ++ cell ∷ []) = sym (length-shown (take k after) ∙ length-take-le k after g.0) ∙ ap length labels ∙ length_joined (cells ++ cell ∷ []) in
@@ -53,11 +55,14 @@ module _ {C : Type 0} where
   unfolding shown
   hold_none rows starts e = record { within = omega arith; labels = refl; marks = marked_none starts e }
 
-  -- nothing more, and one label more
-  pub grown_none : (rows : List (LabelRow C)) (n : ℕ) (cell : List (Label C)) → n ≤ length rows → [] ≡ cell → Grown rows rows n cell (Some n)
-  grown_none rows n cell le e = subst (λ l. Grown rows rows n l (Some n)) e (le, sym (append-nil (shown (take n rows))))
+  pub lends_on : (was between after : LabelList C) → Lends was between → Lends between after → Lends was after
+  lends_on was between after f g = record { same = g.same ∙ f.same; long = g.long ∙ f.long }
 
-  pub grown_one : (rows : List (LabelRow C)) (n : ℕ) (r : LabelRow C) → n < length rows → Grown rows (set rows n r) n (shown_row (shown (take n rows)) r ∷ []) (Some (n + 1))
+  -- nothing more, and one label more
+  pub grown_none : (l : LabelList C) (cell : List (Label C)) → [] ≡ cell → Grown l l cell (Some tt)
+  grown_none l cell e = subst (λ ls. Grown l l ls (Some tt)) e (record { lends = record { same = refl; long = refl }; more = (l.within, sym (append-nil (shown (take l.count l.rows.now)))) })
+
+  pub grown_one : (rows : List (LabelRow C)) (n : ℕ) (r : LabelRow C) → n < length rows → Extended rows (set rows n r) n (shown_row (shown (take n rows)) r ∷ []) (Some (n + 1))
   grown_one rows n r lt = (omega (arith, length-set rows n r), ap shown (take_more_set rows n r lt) ∙ shown_push (take n rows) r)
 
 module _ {C : Type 0} (a : Asked C) where
@@ -104,7 +109,7 @@ module _ {C : Type 0} (a : Asked C) where
   table_before t t' base before m s b b' lt = omega (arith, ap (λ x. length (cells_before a x)) s, length_cells_on t')
 
   -- one cell more of a tick
-  pub tick_more : (t p : ℕ) (rows after : List (LabelRow C)) (starts : List ℕ) (base n m : ℕ) → p < place_count a → base ≡ length (cells_before a t) → base + place_count a < length starts → Hold rows starts (cells_before a t ++ take p (row_of a t)) n → Grown rows after n (get_or (row_of a t) p []) (Some m) → Hold after (set starts (base + p + 1) m) (cells_before a t ++ take (p + 1) (row_of a t)) m
+  pub tick_more : (t p : ℕ) (rows after : List (LabelRow C)) (starts : List ℕ) (base n m : ℕ) → p < place_count a → base ≡ length (cells_before a t) → base + place_count a < length starts → Hold rows starts (cells_before a t ++ take p (row_of a t)) n → Extended rows after n (get_or (row_of a t) p []) (Some m) → Hold after (set starts (base + p + 1) m) (cells_before a t ++ take (p + 1) (row_of a t)) m
   tick_more t p rows after starts base n m lt b room h g =
       let row = row_of a t in
       let before = cells_before a t in
@@ -115,14 +120,11 @@ module _ {C : Type 0} (a : Asked C) where
       subst (λ l. Hold after (set starts (base + p + 1) m) l m) cells
       (hold_more rows after starts (before ++ take p row) (get_or row p []) (base + p + 1) n m h g size (omega arith))
 
-  pub tick_none : (t : ℕ) (rows : List (LabelRow C)) (starts : List ℕ) (n : ℕ) → Hold rows starts (cells_before a t) n → Hold rows starts (cells_before a t ++ take 0 (row_of a t)) n
-  tick_none t rows starts n h = subst (λ l. Hold rows starts l n) (sym (append-nil (cells_before a t))) h
-
   pub tick_all : (t p : ℕ) (rows : List (LabelRow C)) (starts : List ℕ) (n : ℕ) → place_count a ≤ p → Hold rows starts (cells_before a t ++ take p (row_of a t)) n → Hold rows starts (cells_before a (suc t)) n
   tick_all t p rows starts n le h = subst (λ l. Hold rows starts l n) (ap (λ l. cells_before a t ++ l) (take_all p (row_of a t) (omega (arith, length_row t))) ∙ sym (cells_on t)) h
 
   -- no room for a cell
-  pub tick_full : (t p : ℕ) (rows after : List (LabelRow C)) (starts : List ℕ) (n : ℕ) → p < place_count a → Hold rows starts (cells_before a t ++ take p (row_of a t)) n → Grown rows after n (get_or (row_of a t) p []) None → length rows < total_length (cells_before a (suc t))
+  pub tick_full : (t p : ℕ) (rows after : List (LabelRow C)) (starts : List ℕ) (n : ℕ) → p < place_count a → Hold rows starts (cells_before a t ++ take p (row_of a t)) n → Extended rows after n (get_or (row_of a t) p []) None → length rows < total_length (cells_before a (suc t))
   tick_full t p rows after starts n lt h g =
       let row = row_of a t in
       let before = cells_before a t in
@@ -171,8 +173,10 @@ module _ {C : Type 0} (a : Asked C) where
   hold_start rows starts e = hold_none rows starts e
 
   -- the layer of a tick
-  pub laid : (layer : Layer) (n : ℕ) → n ≡ place_count a → layer.base ≡ layer.tick * n → layer.busy ≡ busy_at a layer.tick → Laid a layer
-  laid layer n e b busy = record { busy = busy; base = b ∙ ap (λ x. layer.tick * x) e ∙ sym (length_cells layer.tick) }
+  pub laid : (layer : Layer) (n : ℕ) → n ≡ place_count a → layer.base ≡ layer.tick * n → layer.busy ≡ busy_at a layer.tick → layer.tick ≤ 64 → place_count a ≤ 128 → Laid a layer
+  laid layer n e b busy le few =
+      let base : layer.base ≡ length (cells_before a layer.tick) = b ∙ ap (λ x. layer.tick * x) e ∙ sym (length_cells layer.tick) in
+      record { busy = busy; base = base; room = table_room layer.tick layer.base le few base }
 
   -- the cells of a tick, among all
   cells_split : (t h : ℕ) → t ≤ h → (more : List (List (Label C))) × (cells_before a (suc h) ≡ (cells_before a t ++ row_of a t) ++ more)

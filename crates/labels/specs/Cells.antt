@@ -1,6 +1,6 @@
 -- Filling one cell: what stands in the tables meanwhile, and how a label is selected.
 -- Assumes nothing.
-use Rattle.std.specs.Prelude.{◌≡◌, ℕ, ◌+◌, ◌<◌, ◌≤◌, cond, List, [], ◌++◌, length, take, drop, Some, None, Option, slice_index_or}
+use Rattle.std.specs.Prelude.{◌≡◌, ℕ, ◌+◌, ◌<◌, cond, List, [], length, drop, Option, slice_index_or}
 use Rattle.rules.specs.Kinds.{Kind}
 use Rattle.rules.specs.Instances.{price}
 use Rattle.rules.specs.Offers.{Label}
@@ -31,8 +31,3 @@ module _ {C : Type 0} (a : Asked C) where
     pub table : cell.base + place_count a < length starts
     pub runs : Runs starts cell.base (shown rows) (row_of a cell.tick) (place_count a)
     pub barred : cell.barred ≡ barred_to a cell.place cell.tick
-
--- after the first n rows stand those of the labels, unless there is no room for all of them
-abbrev pub Grown : {C : Type 0} → List (LabelRow C) → List (LabelRow C) → ℕ → List (Label C) → Option ℕ → Type 0
-Grown was after n ls None = length was < n + length ls
-Grown was after n ls (Some m) = (m ≤ length after) × (shown (take m after) ≡ shown (take n was) ++ ls)

@@ -1,6 +1,6 @@
 -- The labels that arrive, and how offers are chosen among them.
 -- Assumes nothing.
-use Rattle.std.specs.Prelude.{◌≡◌, ◌-◌, Bool, true, List, ◌++◌, replicate, Some, None, Option}
+use Rattle.std.specs.Prelude.{◌≡◌, ◌-◌, List, ◌++◌, replicate, Option}
 use Rattle.std.specs.List.{filter}
 use Rattle.std.specs.Option.{option_map}
 use Rattle.rules.specs.Kinds.{Kind}
@@ -26,11 +26,6 @@ module _ {C : Type 0} where
   shown_lead o = option_map shown_offer o
 
 module _ {C : Type 0} (k : Kind C) where
-  -- c would come before the best so far
-  abbrev pub goes_first : Option (Offer C) → C → Bool
-  goes_first None c = true
-  goes_first (Some b) c = k.before c b.cost
-
   -- the best so far, once these labels have come
   abbrev pub Chooses : Arrivals C → Option C → Option (Offer C) → List (Label C) → Option (Offer C) → Type 0
   Chooses x last best ls r = shown_lead r ≡ picked k (out_of_turn k last (arrived x)) (shown_lead best) ls

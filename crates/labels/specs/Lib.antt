@@ -1,5 +1,6 @@
 pub mod Picks
 pub mod Rows
+pub mod Lists
 pub mod Queries
 pub mod Seeking
 pub mod Cells

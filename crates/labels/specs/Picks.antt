@@ -31,6 +31,11 @@ module _ {C B : Type 0} (k : Kind C) where
   last_cost o [] = o
   last_cost o (e ∷ es) = last_cost (Some e.cost) es
 
+-- c comes before the best cost so far
+abbrev pub leads : {C : Type 0} → Kind C → Option C → C → Bool
+leads k None c = true
+leads k (Some b) c = k.before c b
+
 -- c comes after the last cost taken
 abbrev pub comes_after : {C : Type 0} → Kind C → Option C → C → Bool
 comes_after k None c = true

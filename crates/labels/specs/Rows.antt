@@ -1,6 +1,6 @@
 -- What rows of labels say: each has a cost and a place, and goes on from an earlier row, its parent, or from none.
 -- Assumes nothing.
-use Rattle.std.specs.Prelude.{ℕ, Bool, true, List, [], ◌∷◌, ◌++◌, map, Some, None, Option, slice_index_or}
+use Rattle.std.specs.Prelude.{ℕ, List, [], ◌∷◌, ◌++◌, map, Option, slice_index_or}
 use Rattle.std.specs.Option.{option_map}
 use Rattle.rules.specs.Kinds.{Kind}
 use Rattle.rules.specs.Offers.{Label}
@@ -28,8 +28,3 @@ module _ {C : Type 0} where
 -- labels, one move on
 abbrev pub extended_by : {C : Type 0} → Kind C → C → ℕ → List (Label C) → List (Label C)
 extended_by k price to ls = map (λ l. record { cost = k.join l.cost price; item = to ∷ l.item }) ls
-
--- c would come before the best so far
-abbrev pub leads : {C : Type 0} → Kind C → Option (LabelRow C) → C → Bool
-leads k None c = true
-leads k (Some b) c = k.before c b.cost

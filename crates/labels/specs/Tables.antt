@@ -1,11 +1,13 @@
 -- The tables of one cart's labels: the rows, and where each cell begins.
 -- Assumes nothing.
-use Rattle.std.specs.Prelude.{◌≡◌, ℕ, zero, suc, ◌<◌, ◌≤◌, List, [], ◌++◌, length, take, Some, None, Option}
+use Rattle.std.specs.Prelude.{◌≡◌, ℕ, zero, suc, ◌+◌, ◌<◌, ◌≤◌, List, [], ◌++◌, length, take, Some, None, Option}
 use Rattle.rules.specs.Offers.{Label, joined_lists, total_length}
 use Rattle.labels.specs.declared.layer.Layer.{Layer}
+use Rattle.labels.specs.declared.list.LabelList.{LabelList}
 use Rattle.labels.specs.declared.row.LabelRow.{LabelRow}
 use Rattle.charts.specs.Parts.{Marked}
-use Rattle.labels.specs.Queries.{Asked, row_of, label_total}
+use Rattle.labels.specs.Lists.{Lends, count_if}
+use Rattle.labels.specs.Queries.{Asked, row_of, place_count, label_total}
 use Rattle.labels.specs.Rows.{shown}
 use Rattle.labels.specs.Seeking.{busy_at}
 
@@ -15,10 +17,14 @@ pub record Hold {C : Type 0} (rows : List (LabelRow C)) (starts : List ℕ) (cel
   pub labels : shown (take n rows) ≡ joined_lists cells
   pub marks : Marked starts cells
 
--- the cells are held, unless there is no room for their labels
-abbrev pub Holding : {C : Type 0} → List (LabelRow C) → List ℕ → List (List (Label C)) → Option ℕ → Type 0
-Holding rows starts cells None = length rows < total_length cells
-Holding rows starts cells (Some n) = Hold rows starts cells n
+abbrev pub HeldIf : {C : Type 0} → List (LabelRow C) → List ℕ → List (List (Label C)) → Option ℕ → Type 0
+HeldIf rows starts cells None = length rows < total_length cells
+HeldIf rows starts cells (Some n) = Hold rows starts cells n
+
+-- a list still lends the same rows, and holds the cells, unless there is no room for their labels
+pub record Holding {C : Type 0} (was after : LabelList C) (starts : List ℕ) (cells : List (List (Label C))) (r : Option (Unit {0})) : Type 0 where
+  pub lends : Lends was after
+  pub all : HeldIf after.rows.now starts cells (count_if after r)
 
 -- the cells of the ticks before t, place by place
 unfoldable pub cells_before : {C : Type 0} → Asked C → ℕ → List (List (Label C))
@@ -39,6 +45,7 @@ module _ {C : Type 0} (a : Asked C) where
   pub record Laid (layer : Layer) : Type 0 where
     pub busy : layer.busy ≡ busy_at a layer.tick
     pub base : layer.base ≡ length (cells_before a layer.tick)
+    pub room : layer.base + place_count a < 8321
 
   -- what one says of the tick before t, if there is any
   abbrev pub LaidBefore : ℕ → Option Layer → Type 0

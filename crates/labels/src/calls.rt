@@ -4,7 +4,7 @@ ghost use Rattle.labels.specs.Answers.{refusal, hindrance, walk_hindrance, told,
 ghost use Rattle.labels.specs.Queries.{asked, label_total, offers_of};
 
 use crate::arrivals::Arrivals;
-use crate::landings::landing_of;
+use crate::limits::{MOST_ROWS, MOST_TICKS, STARTS};
 use crate::query::Query;
 use crate::refusal::LabelRefusal;
 use crate::row::LabelRow;
@@ -20,10 +20,10 @@ fn admit<F: Floor, C: CostKind, B: Constrains>(
 ) -> Result<(), LabelRefusal>
     ensures { result ≡ told (refusal (asked F.Floor.moves C.CostKind.kind B.Constrains.constraint query.now) rows) tt }
 {
-    if query.horizon > 64 {
+    if query.horizon > MOST_TICKS {
         return Err(LabelRefusal::HorizonTooLong);
     }
-    if rows > 65535 {
+    if rows > MOST_ROWS {
         return Err(LabelRefusal::TooManyRows);
     }
     let cart = query
@@ -43,9 +43,8 @@ fn admit<F: Floor, C: CostKind, B: Constrains>(
 fn lay_out<F: Floor, C: CostKind, B: Constrains>(
     query: &Query<'_, F, C, B>,
     rows: &mut [LabelRow<C>],
-    starts: &mut [u16],
+    starts: &mut [u16; STARTS],
 ) -> Result<usize, LabelRefusal>
-    requires { length starts.old ≡ 8321 }
     ensures { LaidOut (asked F.Floor.moves C.CostKind.kind B.Constrains.constraint query.now) (length rows.old) rows.new starts.new result }
 {
     admit(query, rows.len())?;
@@ -59,7 +58,7 @@ pub fn count_labels<F: Floor, C: CostKind, B: Constrains>(
 ) -> Result<u16, LabelRefusal>
     ensures { result ≡ told (hindrance (asked F.Floor.moves C.CostKind.kind B.Constrains.constraint query.now) (length rows.old)) (label_total (asked F.Floor.moves C.CostKind.kind B.Constrains.constraint query.now)) }
 {
-    let mut starts = [0u16; 8321];
+    let mut starts = [0u16; STARTS];
     let n = lay_out(query, rows, &mut starts)?;
     Ok(n as u16)
 }
@@ -68,17 +67,16 @@ pub fn count_labels<F: Floor, C: CostKind, B: Constrains>(
 fn arrivals_of<'a, F: Floor, C: CostKind, B: Constrains>(
     query: &Query<'_, F, C, B>,
     rows: &'a [LabelRow<C>],
-    starts: &'a [u16],
+    starts: &'a [u16; STARTS],
     end: usize,
 ) -> Arrivals<'a, C>
-    requires solved { Solved (asked F.Floor.moves C.CostKind.kind B.Constrains.constraint query.now) rows.now starts.now end }
-    requires table { length starts.now ≡ 8321 }
+    requires { Solved (asked F.Floor.moves C.CostKind.kind B.Constrains.constraint query.now) rows.now starts.now end }
     ensures { ArrivalsOf (asked F.Floor.moves C.CostKind.kind B.Constrains.constraint query.now) result }
 {
     Arrivals {
         rows: &rows[..end],
         starts,
-        landing: landing_of(query),
+        landing: query.landing_of(),
     }
 }
 
@@ -90,7 +88,7 @@ pub fn count_offers<F: Floor, C: CostKind, B: Constrains>(
     ensures counted { result ≡ told (hindrance (asked F.Floor.moves C.CostKind.kind B.Constrains.constraint query.now) (length rows.old)) (length (offers_of (asked F.Floor.moves C.CostKind.kind B.Constrains.constraint query.now))) }
     ensures promise { Inside (asked F.Floor.moves C.CostKind.kind B.Constrains.constraint query.now).inst → CountPromise (asked F.Floor.moves C.CostKind.kind B.Constrains.constraint query.now) result }
 {
-    let mut starts = [0u16; 8321];
+    let mut starts = [0u16; STARTS];
     let end = lay_out(query, rows, &mut starts)?;
     let arrivals = arrivals_of(query, rows, &starts, end);
     Ok(arrivals.offers().count() as u16)
@@ -110,7 +108,7 @@ pub fn take_offer<F: Floor, C: CostKind, B: Constrains>(
     if places.len() != query.horizon as usize + 1 {
         return Err(LabelRefusal::WrongLength);
     }
-    let mut starts = [0u16; 8321];
+    let mut starts = [0u16; STARTS];
     let end = lay_out(query, rows, &mut starts)?;
     let arrivals = arrivals_of(query, rows, &starts, end);
     Ok(arrivals.write_offer(number, places))

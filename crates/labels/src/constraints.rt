@@ -5,7 +5,7 @@ ghost use Rattle.labels.specs.Seeking.{names, leads_to};
 
 use carts::{Constrains, Constraint};
 
-// Each test matches the fields: against a whole constraint, by `==`, the search under 200 constraints took some 5 % longer.
+// Each test matches the fields: by `==` with a whole constraint the search under 200 constraints took some 5 % longer, both measured on a busy machine.
 // Whether a constraint is on a cart at a tick.
 pub fn is_on(constraint: Constraint, cart: u8, tick: u8) -> bool
     ensures { result ≡ names cart tick (constraint_of constraint) }
@@ -45,7 +45,8 @@ pub fn forbids_going(constraint: Constraint, cart: u8, from: u8, to: u8, tick: u
     matches!(constraint, Constraint::Edge { cart: c, from: u, to: v, tick: t } if cart == c && from == u && to == v && tick == t)
 }
 
-// Whether some constraint passes a test. A `for`: by `iter().any(..)` the search under 200 constraints took a tenth to a fifth longer.
+// Whether some constraint passes a test.
+// A `for`: by `iter().any(..)` the search under 200 constraints took a tenth to a fifth longer, both measured on a busy machine.
 pub fn some<B: Constrains, P: Fn(Constraint) -> bool>(constraints: &[B], test: P) -> bool
     requires { P.IsAlwaysCallable test }
     ensures { (passes : Rule → Bool) → ((x : Constraint) (b : Bool) → P.post test x b → b ≡ passes (constraint_of x)) → result ≡ any_of passes (map B.Constrains.constraint constraints.now) }

@@ -1,5 +1,6 @@
 #![tactic(auto)]
 
+// Numbers are widened by `as`: of the answer of `usize::from`, as the place in a slice, each proof would first have to say what it is.
 mod allowed;
 mod arrivals;
 mod calls;
@@ -9,6 +10,8 @@ mod constraints;
 mod landing;
 mod landings;
 mod layer;
+mod limits;
+mod list;
 mod offer;
 mod offers;
 mod open_cell;
@@ -18,6 +21,7 @@ mod row;
 mod rows;
 mod search;
 mod tables;
+mod turns;
 mod walks;
 
 pub use calls::{count_labels, count_offers, take_offer};

@@ -1,15 +1,17 @@
 ghost use Rattle.std.specs.Prelude.{◌≡◌, ◌+◌, ◌-◌, ◌≤◌, not, ◌&&◌, length, slice_index};
 ghost use Rattle.std.specs.Iterator.{YieldsFirstBy, item_count};
 ghost use Rattle.std.specs.List.{list_any};
+ghost use Rattle.std.specs.Option.{option_map};
 ghost use Rattle.rules.specs.Fronts.{front_of};
-ghost use Rattle.labels.specs.Choices.{arrived, shown_offer, goes_first, Chooses, offers_left};
+ghost use Rattle.labels.specs.Choices.{arrived, shown_offer, Chooses, offers_left};
 ghost use Rattle.labels.specs.Landings.{cell_of, run_of, standing};
-ghost use Rattle.labels.specs.Picks.{undercuts, dominated, out_of_turn};
+ghost use Rattle.labels.specs.Picks.{leads, undercuts, dominated, out_of_turn};
 ghost use Rattle.labels.specs.Rows.{shown};
 
 use crate::arrivals::Arrivals;
 use crate::offer::Offer;
 use crate::row::LabelRow;
+use crate::turns::{comes_first, is_after};
 use costs::CostKind;
 
 // The offers of a cart, in the order of their costs.
@@ -52,6 +54,7 @@ impl<'a, C: CostKind> Arrivals<'a, C> {
     }
 
     // The labels at the goal at a tick, and the first one's row.
+    // Here and in two more contracts the tick is none after the horizon: a type of such ticks would have to be made of each tick of a range, with the same proof there.
     fn run(&self, tick: u8) -> (usize, &'a [LabelRow<C>])
         requires { tick ≤ self.now.landing.horizon }
         ensures from { result.0 ≡ slice_index self.now.starts.now (cell_of self.now.landing tick) }
@@ -82,17 +85,18 @@ impl<'a, C: CostKind> Arrivals<'a, C> {
     fn is_due(&self, last: Option<C>, c: C) -> bool
         ensures { result ≡ not (out_of_turn C.CostKind.kind last (arrived self.now) c) }
     {
-        last.is_none_or(|b| b.before(c)) && !self.is_dominated(c)
+        is_after(last, c) && !self.is_dominated(c)
     }
 
     // Whether `c` is a better next offer's cost than the best so far.
     fn is_better(&self, last: Option<C>, best: &Option<Offer<'_, C>>, c: C) -> bool
-        ensures { result ≡ (goes_first C.CostKind.kind best.now c && not (out_of_turn C.CostKind.kind last (arrived self.now) c)) }
+        ensures { result ≡ (leads C.CostKind.kind (option_map (λ o. o.cost) best.now) c && not (out_of_turn C.CostKind.kind last (arrived self.now) c)) }
     {
-        best.as_ref().is_none_or(|b| c.before(b.cost)) && self.is_due(last, c)
+        comes_first(best.as_ref().map(|offer| offer.cost), c) && self.is_due(last, c)
     }
 
     // The best so far, once the labels that arrive at a tick have come.
+    // One loop of this and `RowsSoFar::along` would take the test and what makes the new best as closures, and be no shorter than the two.
     fn by_tick(
         &'a self,
         tick: u8,
@@ -121,7 +125,7 @@ impl<'a, C: CostKind> Arrivals<'a, C> {
     fn offer_after(&'a self, last: Option<C>) -> Option<Offer<'a, C>>
         ensures { Chooses C.CostKind.kind self.now last None (arrived self.now) result }
     {
-        // A loop carries the best so far from tick to tick as plainly as a `fold`.
+        // A loop carries the best so far from tick to tick as plainly as a `fold`. One over `first..=horizon` would end in two ways, each with its proof.
         let mut best = None;
         for tick in self.landing.first..self.landing.horizon + 1 {
             best = self.by_tick(tick, last, best);

@@ -3,7 +3,6 @@ ghost use Rattle.labels.specs.Queries.{asked, place_count, reaching};
 ghost use Rattle.labels.specs.Cells.{Ready, Selects, by_one};
 ghost use Rattle.labels.specs.Rows.{shown};
 
-use crate::allowed::may_go;
 use crate::cell::Cell;
 use crate::row::LabelRow;
 use crate::rows::RowsSoFar;
@@ -39,7 +38,7 @@ impl<F: Floor, C: CostKind, B: Constrains> OpenCell<'_, '_, '_, '_, F, C, B> {
     {
         let query = self.search.query;
         let cell = self.cell;
-        if !may_go(query, cell.barred, step.from, cell.place, cell.tick) {
+        if !query.may_go(cell.barred, step.from, cell.place, cell.tick) {
             return best;
         }
         let at = cell.base + step.from as usize;

@@ -1,9 +1,11 @@
 ghost use Rattle.std.specs.Prelude.{◌≡◌, ◌≤◌, not, ◌&&◌, length, take, drop, None};
+ghost use Rattle.std.specs.Option.{option_map};
 ghost use Rattle.rules.specs.Fronts.{covered};
-ghost use Rattle.labels.specs.Picks.{picked, comes_after, last_cost, passed_over};
-ghost use Rattle.labels.specs.Rows.{shown, shown_best, extended_by, leads};
+ghost use Rattle.labels.specs.Picks.{leads, picked, last_cost, passed_over};
+ghost use Rattle.labels.specs.Rows.{shown, shown_best, extended_by};
 
 use crate::row::LabelRow;
+use crate::turns::{comes_first, is_after};
 use costs::CostKind;
 
 // The rows so far: those from `start` on are of the cell that is being filled, and the last of those costs `last`.
@@ -14,20 +16,6 @@ pub struct RowsSoFar<'a, C> {
     pub last: Option<C>,
     ghost cell: { start ≤ length rows.now },
     ghost few: { length rows.now ≤ 65535 },
-}
-
-// Whether `c` comes before the best so far.
-fn comes_first<C: CostKind>(best: Option<LabelRow<C>>, c: C) -> bool
-    ensures { result ≡ leads C.CostKind.kind best c }
-{
-    best.is_none_or(|b| c.before(b.cost))
-}
-
-// Whether `c` comes after the last cost taken.
-pub fn is_after<C: CostKind>(last: Option<C>, c: C) -> bool
-    ensures { result ≡ comes_after C.CostKind.kind last c }
-{
-    last.is_none_or(|b| b.before(c))
 }
 
 impl<'a, C: CostKind> RowsSoFar<'a, C> {
@@ -62,9 +50,9 @@ impl<'a, C: CostKind> RowsSoFar<'a, C> {
 
     // Whether a label of the cost `c` is better than the best so far: it comes before it, and may be the next.
     fn improves(&self, best: Option<LabelRow<C>>, c: C) -> bool
-        ensures { result ≡ (leads C.CostKind.kind best c && not (passed_over C.CostKind.kind self.now.last (drop self.now.start (shown self.now.rows.now)) c)) }
+        ensures { result ≡ (leads C.CostKind.kind (option_map (λ r. r.cost) best) c && not (passed_over C.CostKind.kind self.now.last (drop self.now.start (shown self.now.rows.now)) c)) }
     {
-        comes_first(best, c) && self.may_follow(c)
+        comes_first(best.map(|row| row.cost), c) && self.may_follow(c)
     }
 
     // The best so far, once the rows from `from` to `to` have gone on to `place` for `price`.
@@ -74,13 +62,12 @@ impl<'a, C: CostKind> RowsSoFar<'a, C> {
         to: usize,
         price: C,
         place: u8,
-        best: Option<LabelRow<C>>,
+        mut best: Option<LabelRow<C>>,
     ) -> Option<LabelRow<C>>
         requires run { from ≤ to }
         requires within { to ≤ length self.now.rows.now }
         ensures { let ls = shown self.now.rows.now in shown_best ls result ≡ picked C.CostKind.kind (passed_over C.CostKind.kind self.now.last (drop self.now.start ls)) (shown_best ls best) (extended_by C.CostKind.kind price place (drop from (take to ls))) }
     {
-        let mut best = best;
         for (i, row) in self.rows[from..to].iter().enumerate() {
             let cost = row.cost.join(price);
             if self.improves(best, cost) {

@@ -2,8 +2,9 @@ ghost use Rattle.std.specs.Prelude.{◌≡◌, suc, ◌+◌, ◌<◌, ◌≤◌,
 ghost use Rattle.labels.specs.Queries.{asked, place_count};
 ghost use Rattle.labels.specs.Tables.{Hold, Holding, Filled, Laid, LaidBefore, cells_before};
 
-use crate::allowed::is_busy;
 use crate::layer::Layer;
+use crate::limits::STARTS;
+use crate::list::LabelList;
 use crate::query::Query;
 use crate::row::LabelRow;
 use crate::search::Search;
@@ -18,23 +19,19 @@ impl<F: Floor, C: CostKind, B: Constrains> Search<'_, F, C, B> {
         &self,
         before: Option<Layer>,
         layer: Layer,
-        rows: &mut [LabelRow<C>],
-        starts: &mut [u16],
-        n: usize,
-    ) -> Option<usize>
-        requires few { length rows.old ≤ 65535 }
+        list: &mut LabelList<C>,
+        starts: &mut [u16; STARTS],
+    ) -> Option<()>
         requires laid { Laid (asked F.Floor.moves C.CostKind.kind B.Constrains.constraint self.now.query.now) layer }
         requires laid_before { LaidBefore (asked F.Floor.moves C.CostKind.kind B.Constrains.constraint self.now.query.now) layer.tick before }
-        requires table { layer.base + place_count (asked F.Floor.moves C.CostKind.kind B.Constrains.constraint self.now.query.now) < length starts.old }
-        requires held { Hold rows.old starts.old (cells_before (asked F.Floor.moves C.CostKind.kind B.Constrains.constraint self.now.query.now) layer.tick) n }
-        ensures { Holding rows.new starts.new (cells_before (asked F.Floor.moves C.CostKind.kind B.Constrains.constraint self.now.query.now) (suc layer.tick)) result }
+        requires held { Hold list.old.rows.now starts.old (cells_before (asked F.Floor.moves C.CostKind.kind B.Constrains.constraint self.now.query.now) layer.tick) list.old.count }
+        ensures { Holding list.old list.new starts.new (cells_before (asked F.Floor.moves C.CostKind.kind B.Constrains.constraint self.now.query.now) (suc layer.tick)) result }
     {
-        let mut n = n;
         for place in 0..self.query.floor.places() {
-            n = self.fill_cell(before, layer, place, rows, starts, n)?;
-            starts[layer.base + place as usize + 1] = n as u16;
+            self.fill_cell(before, layer, place, list, starts)?;
+            starts[layer.base + place as usize + 1] = list.count as u16;
         }
-        Some(n)
+        Some(())
     }
 }
 
@@ -42,12 +39,11 @@ impl<F: Floor, C: CostKind, B: Constrains> Search<'_, F, C, B> {
 pub fn fill_labels<F: Floor, C: CostKind, B: Constrains>(
     query: &Query<'_, F, C, B>,
     rows: &mut [LabelRow<C>],
-    starts: &mut [u16],
+    starts: &mut [u16; STARTS],
 ) -> Option<usize>
     requires few { length rows.old ≤ 65535 }
     requires known { query.now.cart < length query.now.carts.now }
     requires ticks { query.now.horizon ≤ 64 }
-    requires table { length starts.old ≡ 8321 }
     ensures { Filled (asked F.Floor.moves C.CostKind.kind B.Constrains.constraint query.now) rows.new starts.new result }
 {
     let index = Index::of(query.floor);
@@ -57,16 +53,17 @@ pub fn fill_labels<F: Floor, C: CostKind, B: Constrains>(
     };
     let places = query.floor.places() as usize;
     starts[0] = 0;
-    let mut n = 0;
+    let mut list = LabelList::new(rows);
     let mut before = None;
+    // A loop over `0..=query.horizon` would end in two ways, each with its proof.
     for tick in 0..query.horizon + 1 {
         let layer = Layer {
             tick,
-            busy: is_busy(query, tick),
+            busy: query.is_busy(tick),
             base: tick as usize * places,
         };
-        n = search.fill_tick(before, layer, rows, starts, n)?;
+        search.fill_tick(before, layer, &mut list, starts)?;
         before = Some(layer);
     }
-    Some(n)
+    Some(list.count)
 }
