@@ -63,13 +63,14 @@ fn takes_no_more_than_the_most_bytes(rt: HostRuntime) -> Result<(), Fail> {
     for _ in 0..MOST_BYTES / 4 {
         input.extend_from_slice(b"1 1\n")?;
     }
-    let page = front_page("costs", input.as_slice(), rt.alloc())?
-        .map_err(|_| Fail::new("no page for the most bytes"))?;
+    let page = front_page("costs", input.as_slice(), rt.alloc())?.map_err(|_| Fail::new(
+        "no page for the most bytes",
+    ))?;
     assert_eq!(rt; page.as_slice(), b"1 1\nkept 1 of 4096\n".as_slice());
     input.push(b'\n')?;
-    let line = front_page("costs", input.as_slice(), rt.alloc())?
-        .err()
-        .ok_or(Fail::new("a page for too many bytes"))?;
+    let Err(line) = front_page("costs", input.as_slice(), rt.alloc())? else {
+        return Err(Fail::new("a page for too many bytes"));
+    };
     assert_eq!(rt; line.as_str(), "line 0: more than 16384 bytes\n");
     Ok(())
 }

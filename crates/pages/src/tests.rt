@@ -31,9 +31,9 @@ fn a_stop_is_a_refusal_or_for_want_of_memory(rt: HostRuntime) {
 
 #[test]
 fn a_refusal_is_told_in_a_line(rt: HostRuntime) -> Result<(), Fail> {
-    let line = or_line::<u8, u8>(Err(Stop::Refused(7)), rt.alloc())?
-        .err()
-        .ok_or(Fail::new("no line for a refusal"))?;
+    let Err(line) = or_line::<u8, u8>(Err(Stop::Refused(7)), rt.alloc())? else {
+        return Err(Fail::new("no line for a refusal"));
+    };
     assert_eq!(rt; line.as_str(), "7");
     assert!(rt; or_line::<u8, u8>(Ok(5), rt.alloc())?.is_ok_and(|made| made == 5));
     assert!(rt; or_line::<u8, u8>(Err(Stop::Memory), rt.alloc()).is_err());
