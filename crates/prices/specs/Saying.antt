@@ -3,7 +3,7 @@
 use Rattle.std.specs.Prelude.{◌≡◌, ℕ, ◌<◌, List, [], ◌∷◌, ◌++◌, length, vec_items, vec_len, Vec, refl}
 use Rattle.std.proofs.Common.{ap, sym, ◌∙◌, append_assoc, arith}
 use Rattle.std.specs.declared.alloc.Global.{Global}
-use Rattle.std.proofs.lemmas.List.{append-nil, length-append, length-map, nil_from_length}
+use Rattle.std.proofs.lemmas.List.{length-append, length-map}
 use Rattle.fronts.specs.Rows.{entry_of, entries}
 use Rattle.fronts.specs.declared.row.Row.{Row}
 use Rattle.digits.specs.Splits.{Without}

@@ -1,12 +1,8 @@
-use Rattle.std.proofs.Common.{length, ◌≡◌, ℕ, ◌<◌, ◌^◌, List, Ok, Err, IsOk, Result, decimal, sym, refl, ap, ◌∙◌, subst, arith, rules}
-use Rattle.std.specs.List.{AllByRecursion}
-use Rattle.std.specs.Int.{IsInRange}
+use Rattle.std.proofs.Common.{length, ◌≡◌, ◌<◌, ◌^◌, decimal, sym, refl, ap, ◌∙◌, subst, arith, rules}
 use Rattle.std.specs.Str.{IsUtf8}
-use Rattle.std.specs.Str.Parse.{digits_value, ParsesUnsigned}
+use Rattle.std.specs.Str.Parse.{digits_value}
 use Rattle.std.specs.Result.{OkIff}
-use Rattle.std.proofs.lemmas.Str.{IsUtf8-from_ascii}
-use Rattle.std.proofs.lemmas.Str.Parse.{parse_digits}
-use Rattle.digits.specs.Numbers.{BaseTen, NumberRead}
+use Rattle.digits.specs.Numbers.{BaseTen}
 use Rattle.digits.proofs.NumberReads.{digits_read, digits_utf8, decimal_of_value}
 use Rattle.digits.proofs.numbers.read_number.Goals as goal
 

@@ -2,7 +2,6 @@ use Rattle.std.proofs.Common.{◌≡◌, ℕ, ◌<◌, true, List, [], ◌∷◌
 use Rattle.std.specs.Result.{MatchResult}
 use Rattle.std.proofs.lemmas.Bool.{false≢true}
 use Rattle.digits.specs.declared.numbers.ReadFault.{ReadFault}
-use Rattle.pages.specs.declared.stop.Stop.{Stop}
 use Rattle.prices.specs.declared.refusal.Refusal.{Refusal}
 use Rattle.prices.specs.Lines.{LineRead}
 use Rattle.std.proofs.lemmas.List.{map_push}
