@@ -1,18 +1,14 @@
 -- What the reader keeps, one lane or one cart on. Assumes nothing.
-use Rattle.std.proofs.Common.{◌≡◌, ℕ, ◌+◌, ◌<◌, List, [], ◌∷◌, ◌++◌, length, get_or, Some, None, sym, ap, ◌∙◌, arith}
-use mathlib.Core.Option.{none, some}
+use Rattle.std.proofs.Common.{◌≡◌, ℕ, ◌+◌, ◌<◌, List, [], ◌∷◌, ◌++◌, length, None, sym, ap, ◌∙◌, arith}
+use mathlib.Core.Option.{none}
 use Rattle.std.proofs.lemmas.List.FromFn.{length-map-range_with_len}
 use Rattle.std.proofs.lemmas.List.{length_push}
-use Rattle.std.proofs.lemmas.Bool.{cond-true, cond-false}
+use Rattle.std.proofs.lemmas.Bool.{cond-true}
 use Rattle.rules.specs.Instances.{Move}
 use Rattle.floors.specs.declared.lane_row.LaneRow.{LaneRow}
-use Rattle.floors.specs.declared.refusal.FloorRefusal.{FloorRefusal}
-use Rattle.floors.specs.declared.refusal.FloorRefusal.TheVariants.{BadSize, BadRow}
 use Rattle.floors.specs.Lanes.{lane_count, lane_fits, lane_moves, row_move, row_refusal}
 use Rattle.floors.specs.MoveTables.{extended}
-use Rattle.floors.specs.Refusals.{numbered}
-use Rattle.floors.proofs.LaneTables.{count_extended, failed, fits_from, lanes_more, passed}
-use Rattle.sites.specs.declared.refusal.SiteFault.TheVariants.{Floor}
+use Rattle.floors.proofs.LaneTables.{count_extended, fits_from, lanes_more, passed}
 use Rattle.sites.specs.Sites.{lane_fault}
 
 module _ (places : ℕ) (lanes : List LaneRow) (row : LaneRow) (moves : List (List Move)) (so_far : moves ≡ lane_moves places lanes) (counted : lane_count moves ≡ length lanes) where

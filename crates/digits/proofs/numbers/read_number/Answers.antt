@@ -17,7 +17,7 @@ returns-in-Ok c =
     let ten : BaseTen bs = c.if-not-base_ten.ensures.0 refl in
     let text : c.unwrap.result.now ≡ bs = search rules in
     let read = subst (λ r. OkIff r ((0 < length bs) × (digits_value 10 bs < 2 ^ 32)) (digits_value 10 bs)) c.in-Ok.is (digits_read bs c.unwrap.result.now c.parse.result text ten c.parse.ensures.value.0) in
-    (decimal_of_value bs ten (omega (arith, read.0.1)) ∙ ap decimal (sym read.1), c.if-value-most.true)
+    (decimal_of_value bs ten (omega (arith, read.0.1)) ∙ ap decimal (sym read.1), omega arith)
 
 pub returns-in_default-2 : goal.returns-in_default-2
 returns-in_default-2 c =

@@ -1,4 +1,3 @@
-use Rattle.std.proofs.Common.{ℕ, refl, rules, ap, sym, subst, arith}
 use Rattle.sites.proofs.LineReads.{number_unread, number_told, number_within}
 use Rattle.sites.proofs.lines.number.Goals as goal
 

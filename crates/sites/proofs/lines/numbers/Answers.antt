@@ -1,4 +1,4 @@
-use Rattle.std.proofs.Common.{arith, rules}
+use Rattle.std.proofs.Common.{arith}
 use Rattle.sites.proofs.LineReads.{none_read, next_read, none_next, all_read}
 use Rattle.sites.proofs.lines.numbers.Goals as goal
 
