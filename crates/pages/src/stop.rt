@@ -1,4 +1,4 @@
-ghost use Rattle.std.specs.Prelude.{◌≡◌, IfOk, IfErr};
+ghost use Rattle.std.specs.Prelude.{◌≡◌, Ok, IfOk, IfErr};
 ghost use Rattle.pages.specs.Stops.{Told};
 ghost use Rattle.pages.specs.declared.stop.Stop.TheVariants.{Memory, Refused};
 
@@ -46,7 +46,8 @@ pub fn or_line<V: Drop, R: Display + Copy>(
     made: Result<V, Stop<R>>,
     heap: Global,
 ) -> Result<Result<V, String>, AllocError>
-    ensures { IfOk result (Told R.Display.output made) }
+    ensures handed_on { IfOk made (λ v. result ≡ Ok (Ok v)) }
+    ensures told { IfOk result (Told R.Display.output made) }
 {
     // no `or_else`: its closure would hold both `?`
     match made {

@@ -26,7 +26,7 @@ returns-in_err-or_line-clause-one_print c = one_print
 
 pub returns-clause-printed : goal.returns-clause-printed
 returns-clause-printed c =
-    told_printed c.args.bytes.now c.make_page.result c.in_ok-or_line.field-0 c.unwrap_or_else.result _ c.make_page.ensures c.in_ok-or_line.ensures c.unwrap_or_else.ensures (λ line says. search rules)
+    told_printed c.args.bytes.now c.make_page.result c.in_ok-or_line.field-0 c.unwrap_or_else.result _ c.make_page.ensures c.in_ok-or_line.ensures.told c.unwrap_or_else.ensures (λ line says. search rules)
 
 pub returns-clause-one_print : goal.returns-clause-one_print
 returns-clause-one_print c = one_print
