@@ -86,7 +86,7 @@ impl<F: Floor, C: CostKind, B: Constrains> Search<'_, F, C, B> {
     }
 
     // The cell of a place, after those before it.
-    pub fn fill_cell(
+    pub(crate) fn fill_cell(
         &self,
         before: Option<Layer>,
         layer: Layer,

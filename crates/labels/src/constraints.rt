@@ -7,7 +7,7 @@ use carts::{Constrains, Constraint};
 
 // Each test matches the fields: by `==` with a whole constraint the search under 200 constraints took some 5 % longer, both measured on a busy machine.
 // Whether a constraint is on a cart at a tick.
-pub fn is_on(constraint: Constraint, cart: u8, tick: u8) -> bool
+pub(crate) fn is_on(constraint: Constraint, cart: u8, tick: u8) -> bool
     ensures { result ≡ names cart tick (constraint_of constraint) }
 {
     match constraint {
@@ -25,21 +25,21 @@ pub fn is_on(constraint: Constraint, cart: u8, tick: u8) -> bool
 }
 
 // Whether it is on the cart's moves to a place, leaving at a tick.
-pub fn bars_moves_to(constraint: Constraint, cart: u8, to: u8, tick: u8) -> bool
+pub(crate) fn bars_moves_to(constraint: Constraint, cart: u8, to: u8, tick: u8) -> bool
     ensures { result ≡ leads_to cart to tick (constraint_of constraint) }
 {
     matches!(constraint, Constraint::Edge { cart: c, to: v, tick: t, .. } if cart == c && to == v && tick == t)
 }
 
 // Whether it keeps the cart from a place at a tick.
-pub fn forbids_being_at(constraint: Constraint, cart: u8, place: u8, tick: u8) -> bool
+pub(crate) fn forbids_being_at(constraint: Constraint, cart: u8, place: u8, tick: u8) -> bool
     ensures { result ≡ forbids_place cart place tick (constraint_of constraint) }
 {
     matches!(constraint, Constraint::Vertex { cart: c, place: p, tick: t } if cart == c && place == p && tick == t)
 }
 
 // Whether it keeps the cart from a move, leaving at a tick.
-pub fn forbids_going(constraint: Constraint, cart: u8, from: u8, to: u8, tick: u8) -> bool
+pub(crate) fn forbids_going(constraint: Constraint, cart: u8, from: u8, to: u8, tick: u8) -> bool
     ensures { result ≡ forbids_move cart from to tick (constraint_of constraint) }
 {
     matches!(constraint, Constraint::Edge { cart: c, from: u, to: v, tick: t } if cart == c && from == u && to == v && tick == t)
@@ -47,7 +47,7 @@ pub fn forbids_going(constraint: Constraint, cart: u8, from: u8, to: u8, tick: u
 
 // Whether some constraint passes a test.
 // A `for`: by `iter().any(..)` the search under 200 constraints took a tenth to a fifth longer, both measured on a busy machine.
-pub fn some<B: Constrains, P: Fn(Constraint) -> bool>(constraints: &[B], test: P) -> bool
+pub(crate) fn some<B: Constrains, P: Fn(Constraint) -> bool>(constraints: &[B], test: P) -> bool
     requires { P.IsAlwaysCallable test }
     ensures { (passes : Rule → Bool) → ((x : Constraint) (b : Bool) → P.post test x b → b ≡ passes (constraint_of x)) → result ≡ any_of passes (map B.Constrains.constraint constraints.now) }
 {

@@ -15,13 +15,13 @@ mod list;
 mod offer;
 mod offers;
 mod open_cell;
+mod order;
 mod query;
 mod refusal;
 mod row;
 mod rows;
 mod search;
 mod tables;
-mod turns;
 mod walks;
 
 pub use calls::{count_labels, count_offers, take_offer};

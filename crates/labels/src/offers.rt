@@ -10,8 +10,8 @@ ghost use Rattle.labels.specs.Rows.{shown};
 
 use crate::arrivals::Arrivals;
 use crate::offer::Offer;
+use crate::order::{comes_first, is_after};
 use crate::row::LabelRow;
-use crate::turns::{comes_first, is_after};
 use costs::CostKind;
 
 // The offers of a cart, in the order of their costs.
@@ -44,7 +44,7 @@ fn undercuts<C: CostKind>(a: C, b: C) -> bool
 
 impl<'a, C: CostKind> Arrivals<'a, C> {
     // All offers.
-    pub fn offers(&'a self) -> Offers<'a, C>
+    pub(crate) fn offers(&'a self) -> Offers<'a, C>
         ensures { offers_left C.CostKind.kind result ≡ front_of C.CostKind.kind (arrived self.now) }
     {
         Offers {

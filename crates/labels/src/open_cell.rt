@@ -52,7 +52,7 @@ impl<F: Floor, C: CostKind, B: Constrains> OpenCell<'_, '_, '_, '_, F, C, B> {
     }
 
     // The next label of the cell.
-    pub fn next_label(&self) -> Option<LabelRow<C>>
+    pub(crate) fn next_label(&self) -> Option<LabelRow<C>>
         ensures { Selects C.CostKind.kind self.now.so_far.rows.now self.now.so_far.start self.now.so_far.last None (reaching (asked F.Floor.moves C.CostKind.kind B.Constrains.constraint self.now.search.now.query.now) self.now.cell.tick self.now.cell.place) result }
     {
         let mut best = None;

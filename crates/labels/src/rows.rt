@@ -4,8 +4,8 @@ ghost use Rattle.rules.specs.Fronts.{covered};
 ghost use Rattle.labels.specs.Picks.{leads, picked, last_cost, passed_over};
 ghost use Rattle.labels.specs.Rows.{shown, shown_best, extended_by};
 
+use crate::order::{comes_first, is_after};
 use crate::row::LabelRow;
-use crate::turns::{comes_first, is_after};
 use costs::CostKind;
 
 // The rows so far: those from `start` on are of the cell that is being filled, and the last of those costs `last`.
@@ -20,7 +20,7 @@ pub struct RowsSoFar<'a, C> {
 
 impl<'a, C: CostKind> RowsSoFar<'a, C> {
     // The rows so far, of which those from `start` on are the cell's.
-    pub fn new(rows: &'a [LabelRow<C>], start: usize) -> Self
+    pub(crate) fn new(rows: &'a [LabelRow<C>], start: usize) -> Self
         requires cell { start ≤ length rows.now }
         requires few { length rows.now ≤ 65535 }
         ensures rows { result.rows.now ≡ rows.now }
@@ -56,7 +56,7 @@ impl<'a, C: CostKind> RowsSoFar<'a, C> {
     }
 
     // The best so far, once the rows from `from` to `to` have gone on to `place` for `price`.
-    pub fn along(
+    pub(crate) fn along(
         &self,
         from: usize,
         to: usize,

@@ -36,7 +36,7 @@ impl<F: Floor, C: CostKind, B: Constrains> Search<'_, F, C, B> {
 }
 
 // The labels of the cart, tick by tick and place by place, if there is room for all of them.
-pub fn fill_labels<F: Floor, C: CostKind, B: Constrains>(
+pub(crate) fn fill_labels<F: Floor, C: CostKind, B: Constrains>(
     query: &Query<'_, F, C, B>,
     rows: &mut [LabelRow<C>],
     starts: &mut [u16; STARTS],

@@ -26,7 +26,7 @@ fn write_trace<C: CostKind>(rows: &[LabelRow<C>], label: usize, places: &mut [u8
 
 impl<C: CostKind> Offer<'_, C> {
     // The places of the offer's walk, from tick 0 to the horizon.
-    pub fn write_walk(&self, places: &mut [u8])
+    pub(crate) fn write_walk(&self, places: &mut [u8])
         requires { length places.old ≡ length (shown_offer self.now).item }
         ensures { places.new ≡ reverse (shown_offer self.now).item }
     {
@@ -43,7 +43,7 @@ impl<C: CostKind> Offer<'_, C> {
 
 impl<C: CostKind> Arrivals<'_, C> {
     // The cost of the offer with a number, whose walk is written into `places`, if there are so many.
-    pub fn write_offer(&self, number: u16, places: &mut [u8]) -> Option<C>
+    pub(crate) fn write_offer(&self, number: u16, places: &mut [u8]) -> Option<C>
         requires { AllByRecursion (λ o. length o.item ≡ length places.old) (front_of C.CostKind.kind (arrived self.now)) }
         ensures cost { result ≡ option_map (λ o. o.cost) (slice_get (front_of C.CostKind.kind (arrived self.now)) number) }
         ensures places { places.new ≡ walked (slice_get (front_of C.CostKind.kind (arrived self.now)) number) places.old }

@@ -41,7 +41,7 @@ impl<F: Floor, C: CostKind> PageWriter<'_, F, C> {
     }
 
     // Adds a cart and its offers, as if it were alone.
-    pub fn push_cart(
+    pub(crate) fn push_cart(
         &mut self,
         out: &mut Vec<u8>,
         cart: u8,

@@ -53,7 +53,7 @@ fn lines_there<F: Floor, C: CostKind>(site: &SiteView<'_, F, C>) -> bool
 }
 
 // The first check that a site fails, of those before its labels are counted.
-pub fn check<F: Floor, C: CostKind>(site: &SiteView<'_, F, C>) -> Result<(), Fault>
+pub(crate) fn check<F: Floor, C: CostKind>(site: &SiteView<'_, F, C>) -> Result<(), Fault>
     ensures passed { IfOk result (λ _. Checked (meant F.Floor.moves C.CostKind.kind site.now)) }
     ensures failed { IfErr result (FailsAt (meant F.Floor.moves C.CostKind.kind site.now)) }
 {

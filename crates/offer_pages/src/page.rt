@@ -27,7 +27,7 @@ impl<F: Floor, C: CostKind> PageWriter<'_, F, C> {
 }
 
 // The page of a site, or the first check that fails.
-pub fn page_of<F: Floor, C: CostKind>(
+pub(crate) fn page_of<F: Floor, C: CostKind>(
     site: &SiteView<'_, F, C>,
     heap: Global,
 ) -> Result<Vec<u8>, Stop<Fault>>

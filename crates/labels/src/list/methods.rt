@@ -10,7 +10,7 @@ use costs::CostKind;
 
 impl<'a, C: CostKind> LabelList<'a, C> {
     // No labels yet.
-    pub fn new(rows: &'a mut [LabelRow<C>]) -> Self
+    pub(crate) fn new(rows: &'a mut [LabelRow<C>]) -> Self
         requires { length rows.old ≤ 65535 }
         ensures count { result.count ≡ 0 }
         ensures rows { result.rows.now ≡ rows.old }
@@ -20,7 +20,7 @@ impl<'a, C: CostKind> LabelList<'a, C> {
     }
 
     // The rows so far, of which those from `start` on are of the cell that is being filled.
-    pub fn so_far(&self, start: usize) -> RowsSoFar<'_, C>
+    pub(crate) fn so_far(&self, start: usize) -> RowsSoFar<'_, C>
         requires { start ≤ self.now.count }
         ensures rows { result.rows.now ≡ take self.now.count self.now.rows.now }
         ensures start { result.start ≡ start }
@@ -30,7 +30,7 @@ impl<'a, C: CostKind> LabelList<'a, C> {
     }
 
     // One label more, if there is room.
-    pub fn push(&mut self, row: LabelRow<C>) -> Option<()>
+    pub(crate) fn push(&mut self, row: LabelRow<C>) -> Option<()>
         ensures { Grown self.old self.new (shown_row (listed self.old) row ∷ []) result }
     {
         if self.count == self.rows.len() {
