@@ -1,6 +1,6 @@
 use Rattle.std.proofs.Common.{sym, ap, ◌∙◌, subst, arith}
 use Rattle.floors.specs.Floors.{FloorBounds}
-use Rattle.floors.specs.Lanes.{lane_count, row_move}
+use Rattle.floors.specs.Lanes.{lane_count}
 use Rattle.floors.proofs.Bounds.{extended_bounds}
 use Rattle.floors.proofs.LaneTables.{count_extended, count_few, fits_from, fits_to, fits_room}
 use Rattle.floors.proofs.lane_floor.LaneFloor.add_lane.Goals as goal
@@ -28,5 +28,5 @@ invariant_of-self c =
     let from = fits_from floor.table row fits in
     record {
       counted = omega (arith, floor.counted, ap lane_count c.push.ensures ∙ count_extended floor.table row.from _ from);
-      bounds = subst FloorBounds (sym c.push.ensures) (extended_bounds floor.table row.from (row_move row) from (fits_to floor.table row fits) (fits_room floor.table row fits) floor.bounds);
+      bounds = subst FloorBounds (sym c.push.ensures) (extended_bounds floor.table row.from _ from (fits_to floor.table row fits) (fits_room floor.table row fits) floor.bounds);
     }
