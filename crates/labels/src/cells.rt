@@ -25,8 +25,10 @@ impl<F: Floor, C: CostKind, B: Constrains> Search<'_, F, C, B> {
         ensures { Grown list.old list.new (front_of C.CostKind.kind (reaching (asked F.Floor.moves C.CostKind.kind B.Constrains.constraint self.now.query.now) cell.tick cell.place)) result }
     {
         let start = list.count;
+        let moves = self.index.moves_to(cell.place);
         while let Some(row) = (OpenCell {
             search: self,
+            moves,
             cell,
             so_far: list.so_far(start),
             starts,

@@ -2,6 +2,7 @@ ghost use Rattle.std.specs.Prelude.{◌≡◌, ◌<◌, drop, None, slice_index_
 ghost use Rattle.labels.specs.Queries.{asked, place_count, reaching};
 ghost use Rattle.labels.specs.Cells.{Ready, Selects, by_one};
 ghost use Rattle.labels.specs.Rows.{shown};
+ghost use Rattle.charts.specs.Indexes.{inbound_of};
 
 use crate::cell::Cell;
 use crate::row::LabelRow;
@@ -23,9 +24,12 @@ fn price_of<C: CostKind>(tariff: &[C], line: u16) -> C
 #[derive(Drop)]
 pub struct OpenCell<'search, 'query, 'rows, 'starts, F: Floor, C: CostKind, B: Constrains> {
     pub search: &'search Search<'query, F, C, B>,
+    // the moves that reach the place: sought once for all labels of the cell
+    pub moves: &'search [Inbound],
     pub cell: Cell,
     pub so_far: RowsSoFar<'rows, C>,
     pub starts: &'starts [u16],
+    ghost reached: { moves.now ≡ inbound_of (F.Floor.moves search.now.query.now.floor.now) cell.place },
     ghost place: { cell.place < place_count (asked F.Floor.moves C.CostKind.kind B.Constrains.constraint search.now.query.now) },
     ghost ready: { Ready (asked F.Floor.moves C.CostKind.kind B.Constrains.constraint search.now.query.now) cell so_far.rows.now starts.now },
 }
@@ -56,7 +60,7 @@ impl<F: Floor, C: CostKind, B: Constrains> OpenCell<'_, '_, '_, '_, F, C, B> {
         ensures { Selects C.CostKind.kind self.now.so_far.rows.now self.now.so_far.start self.now.so_far.last None (reaching (asked F.Floor.moves C.CostKind.kind B.Constrains.constraint self.now.search.now.query.now) self.now.cell.tick self.now.cell.place) result }
     {
         let mut best = None;
-        for step in self.search.index.moves_to(self.cell.place) {
+        for step in self.moves {
             best = self.by_move(*step, best);
         }
         best

@@ -4,7 +4,7 @@ ghost use Rattle.rules.specs.Fronts.{covered};
 ghost use Rattle.labels.specs.Picks.{leads, picked, last_cost, passed_over};
 ghost use Rattle.labels.specs.Rows.{shown, shown_best, extended_by};
 
-use crate::order::{comes_first, is_after};
+use crate::order::is_after;
 use crate::row::LabelRow;
 use costs::CostKind;
 
@@ -49,10 +49,11 @@ impl<'a, C: CostKind> RowsSoFar<'a, C> {
     }
 
     // Whether a label of the cost `c` is better than the best so far: it comes before it, and may be the next.
+    // Asked of the row itself: by `comes_first` of its cost, taken out first, the search at zones took up to half as long again.
     fn improves(&self, best: Option<LabelRow<C>>, c: C) -> bool
         ensures { result ≡ (leads C.CostKind.kind (option_map (λ r. r.cost) best) c && not (passed_over C.CostKind.kind self.now.last (drop self.now.start (shown self.now.rows.now)) c)) }
     {
-        comes_first(best.map(|row| row.cost), c) && self.may_follow(c)
+        best.is_none_or(|row| c.before(row.cost)) && self.may_follow(c)
     }
 
     // The best so far, once the rows from `from` to `to` have gone on to `place` for `price`.

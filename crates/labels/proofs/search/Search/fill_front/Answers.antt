@@ -1,8 +1,9 @@
 use Rattle.std.proofs.Common.{Some, None, sym, ◌∙◌, subst, arith}
 use Rattle.rules.specs.Fronts.{front_of}
+use Rattle.labels.specs.Cells.{Ready}
 use Rattle.labels.specs.Lists.{Grown}
 use Rattle.labels.specs.Queries.{asked, reaching}
-use Rattle.labels.proofs.Filling.{selects_next, filled_on, filled_more, filled_full, filled_done}
+use Rattle.labels.proofs.Filling.{filling_ready, selects_next, filled_on, filled_more, filled_full, filled_done}
 use Rattle.labels.proofs.search.Search.fill_front.Goals as goal
 
 pub loop-row-smaller : goal.loop-row-smaller
@@ -58,3 +59,16 @@ returns g c =
     let so_far = c.so_far.result in
     let next = selects_next k laws xs was.rows.now now.rows.now was.count now.count was.within f None so_far.rows.now so_far.start so_far.last c.so_far.ensures.rows c.so_far.ensures.start c.so_far.ensures.last c.in_default.ensures in
     record { lends = c.loop-row.invariant.lends; more = filled_done k laws xs was.rows.now now.rows.now was.count now.count was.within f next }
+
+pub invariant_of-next_label : goal.invariant_of-next_label
+invariant_of-next_label g c =
+    let k = g.C.CostKind.kind in
+    let cell = c.args.cell in
+    let a = asked g.F.Floor.moves k g.B.Constrains.constraint c.args.self.now.query.now in
+    let was = c.args.list.now in
+    let now = c.loop-row.list in
+    record {
+      reached = c.moves_to-moves.ensures ∙ c.args.self.now.indexed cell.place;
+      place = c.requires.place;
+      ready = subst (λ rows. Ready a cell rows c.args.starts.now) (sym c.so_far.ensures.rows) (filling_ready a cell was.rows.now now.rows.now c.args.starts.now was.count now.count (front_of k (reaching a cell.tick cell.place)) c.requires.ready c.loop-row.invariant.filling);
+    }
