@@ -3,7 +3,7 @@
 use Rattle.std.specs.Prelude.{◌≡◌, ℕ, ◌<◌, List, [], ◌∷◌, ◌++◌, length, vec_items, vec_len, Vec, refl}
 use Rattle.std.proofs.Common.{ap, sym, ◌∙◌, append_assoc, arith}
 use Rattle.std.specs.declared.alloc.Global.{Global}
-use Rattle.std.proofs.lemmas.List.{length-append, length-map}
+use Rattle.std.proofs.lemmas.List.{append-nil, length-append, length-map, nil_from_length}
 use Rattle.fronts.specs.Rows.{entry_of, entries}
 use Rattle.fronts.specs.declared.row.Row.{Row}
 use Rattle.digits.specs.Splits.{Without}
@@ -21,6 +21,10 @@ module _ {C : Type 0} (line : C → List ℕ) where
   pub said_more : (input rest bytes below : List ℕ) (cs ds : List C) (c : C) → input ≡ said line cs ++ rest → rest ≡ bytes ++ (10 ∷ below) → bytes ≡ line c → ds ≡ cs ++ (c ∷ []) → input ≡ said line ds ++ below
   said_more input rest bytes below cs ds c was splits reads more =
       was ∙ ap (λ t. said line cs ++ t) (splits ∙ ap (λ t. t ++ (10 ∷ below)) reads) ∙ said_push cs c below ∙ ap (λ t. said line t ++ below) (sym more)
+
+  -- no line is left
+  pub said_all : (input rest : List ℕ) (cs : List C) → input ≡ said line cs ++ rest → length rest ≡ 0 → input ≡ said line cs
+  said_all input rest cs was none = was ∙ ap (λ t. said line cs ++ t) (nil_from_length rest none) ∙ append-nil (said line cs)
 
 pub shorter : (bytes below : List ℕ) → length below < length (bytes ++ (10 ∷ below))
 shorter bytes below = omega (arith, length-append bytes (10 ∷ below))
