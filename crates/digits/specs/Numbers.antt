@@ -1,5 +1,5 @@
 -- Numbers as they are written in base ten, and what reading one says. Assumes nothing.
-use Rattle.std.specs.Prelude.{◌≡◌, ℕ, ◌^◌, ◌<◌, ◌≤◌, List, Option, Some, None, length, Ok, Err, decimal, Result, slice_index}
+use Rattle.std.specs.Prelude.{◌≡◌, ℕ, ◌<◌, ◌≤◌, List, length, Ok, Err, decimal, Result, slice_index}
 use Rattle.std.specs.Str.Parse.{digits_value}
 use Rattle.std.specs.Int.{IsInRange}
 use Rattle.std.specs.List.{AllByRecursion}
@@ -15,8 +15,3 @@ abbrev pub NumberRead : ℕ → List ℕ → Result ℕ ReadFault → Type 0
 NumberRead most bs (Ok n) = (bs ≡ decimal n) × (n ≤ most)
 NumberRead most bs (Err TooLarge) = BaseTen bs × (most < digits_value 10 bs)
 NumberRead most bs (Err Malformed) = BaseTen bs → ⊥
-
--- the number that digits write, if it has at most 32 bits
-abbrev pub ValueOf : List ℕ → Option ℕ → Type 0
-ValueOf ds (Some n) = n ≡ digits_value 10 ds
-ValueOf ds None = 2 ^ 32 ≤ digits_value 10 ds
