@@ -19,8 +19,7 @@ fn base_ten(bytes: &[u8]) -> bool
 }
 
 // The number that the bytes write in base ten, if at most `most`.
-// Added up by hand: by `str::from_utf8` and `parse`, which go over the digits again, a short number took up to four times as long, and by
-// `checked_mul` and `checked_add` half as long again.
+// Added up by hand: `str::from_utf8` and `parse` go over the digits again, and a number of one digit took four times as long.
 pub fn read_number(bytes: &[u8], most: u32) -> Result<u32, ReadFault>
     ensures { NumberRead most bytes.now result }
 {
